@@ -1,8 +1,9 @@
 //! Writing a list as a run, and reading it.
-ghost use Rattle.std.specs.Prelude.{◌≡◌, ◌+◌, ◌^◌, ◌<◌, [], Some, IfErr, IfOk, IfSome, MatchOption};
+ghost use Rattle.std.specs.Prelude.{◌≡◌, ◌+◌, ◌^◌, ◌<◌, [], Some, IfErr, IfOk, IfSome};
+ghost use Rattle.example_calling.specs.Reads.{ReadsSome};
 ghost use Rattle.sst_entries.specs.declared.error.Error.TheVariants.{OutOfMemory};
-ghost use Rattle.lsm_tables.specs.Words.{CanYield, Faults, FitsAsTables, IsWritable, ReadsOf};
-ghost use Rattle.lsm_tables.specs.Words.{chain_fault, highest_seqno, lift};
+ghost use Rattle.lsm_tables.specs.Words.{CanYield, Faults, FitsAsTables, IsWritable, chain_fault};
+ghost use Rattle.lsm_tables.specs.Words.{highest_seqno, lift};
 
 use crate::{Reads, read_run};
 use lsm_tables::block::{Error, InternalValue, SeqNo, UserKey};
@@ -31,10 +32,9 @@ pub fn read_run_back<A: Allocator + Clone>(
     requires { IsWritable items.items }
     // They are the first match of the key in the list and, from both ends, the newest version of
     // each key within the bounds. The global seqno is applied.
-    ensures list { let gives = ⟦<NewestOfRuns<A> as Iterator>⟧.next_gives in
-        let back_gives = ⟦<NewestOfRuns<A> as DoubleEndedIterator>⟧.next_back_gives in
-        IfOk result (λ r. MatchOption r (items.items ≡ [])
-        (ReadsOf gives back_gives key.now seqno range.0 range.1 (lift items.items global_seqno))) }
+    ensures list { ReadsSome ⟦<NewestOfRuns<A> as Iterator>⟧.next_gives
+        ⟦<NewestOfRuns<A> as DoubleEndedIterator>⟧.next_back_gives key.now seqno range
+        items.items (lift items.items global_seqno) result }
     // If the list has no entry, there is no result.
     ensures none { IfOk result (λ r. IfSome r (λ _. items.items ≡ [] → ⊥)) }
     // Both ends of the range may be called any number of times.

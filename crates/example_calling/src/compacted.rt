@@ -1,12 +1,11 @@
 //! Writing a list as a run, compacting it alone, and reading it.
-ghost use Rattle.std.specs.Prelude.{◌≡◌, ◌∷◌, [], List, IfErr, IfOk, IfSome, MatchOption, Some};
-ghost use Rattle.std.specs.Prelude.{length};
+ghost use Rattle.std.specs.Prelude.{◌≡◌, ◌∷◌, [], List, IfErr, IfOk, IfSome, MatchOption};
+ghost use Rattle.example_calling.specs.Reads.{ReadsSome};
+ghost use Rattle.example_calling.specs.Written.{IfBothFit, OnTablesOf};
 ghost use Rattle.sst_entries.specs.declared.error.Error.TheVariants.{OutOfMemory};
-ghost use Rattle.lsm_tables.specs.Words.{AreCompactable, AreTables, CanYield, Entry, Faults};
-ghost use Rattle.lsm_tables.specs.Words.{FitsAsTables, IsRunOfList, IsWritable, ReadsOf};
-ghost use Rattle.lsm_tables.specs.Words.{both_fault};
-ghost use Rattle.lsm_tables.specs.Words.{default_options, ids_behind, kept};
-ghost use Rattle.lsm_tables.specs.Words.{tables_fault, unfiltered};
+ghost use Rattle.lsm_tables.specs.Words.{AreCompactable, CanYield, Entry, Faults, FitsAsTables};
+ghost use Rattle.lsm_tables.specs.Words.{IsRunOfList, IsWritable, both_fault, kept, tables_fault};
+ghost use Rattle.lsm_tables.specs.Words.{unfiltered};
 
 use crate::{Reads, read_run};
 use lsm_tables::block::{Error, InternalValue, SeqNo, UserKey};
@@ -60,13 +59,10 @@ fn write_and_compact<A: Allocator + Clone>(
     // Except for `OutOfMemory`, the error is the first one: of writing the list, which is cut into
     // these tables, and then what is kept.
     ensures refused { let left = kept rules (unfiltered items.items) in
-        (tables : List (List Entry)) →
-        AreTables default_options.data_block_size target_size items.items tables →
-        Faults result (both_fault target_size items.items tables left) }
-    ensures taken { let left = kept rules (unfiltered items.items) in
-        (first : FitsAsTables (Some 1) target_size items.items) →
-        FitsAsTables (ids_behind (Some 1) target_size (length first.tables)) target_size left →
-        IfErr result (λ e. e ≡ OutOfMemory) }
+        OnTablesOf target_size items.items (λ tables.
+        Faults result (both_fault target_size items.items tables left)) }
+    ensures taken { IfBothFit target_size items.items (kept rules (unfiltered items.items))
+        (IfErr result (λ e. e ≡ OutOfMemory)) }
 {
     let (ids, created_at) = (TableIds::new(1), Timestamp::from(0));
     let (run, ids) = write_run(alloc.clone()?, ids, target_size, created_at, items, 0)?;
@@ -98,11 +94,10 @@ pub fn compact_run_back<A: Allocator + Clone>(
     requires { IsWritable items.items }
     // They are the first match of the key in what is kept and, from both ends, the newest version
     // of each key within the bounds.
-    ensures list { let gives = ⟦<NewestOfRuns<A> as Iterator>⟧.next_gives in
-        let back_gives = ⟦<NewestOfRuns<A> as DoubleEndedIterator>⟧.next_back_gives in
-        let left = kept rules (unfiltered items.items) in
-        IfOk result (λ r. MatchOption r (left ≡ [])
-        (ReadsOf gives back_gives key.now seqno range.0 range.1 left)) }
+    ensures list { let left = kept rules (unfiltered items.items) in
+        ReadsSome ⟦<NewestOfRuns<A> as Iterator>⟧.next_gives
+        ⟦<NewestOfRuns<A> as DoubleEndedIterator>⟧.next_back_gives key.now seqno range
+        left left result }
     // If nothing is kept, there is no result.
     ensures none { let left = kept rules (unfiltered items.items) in
         IfOk result (λ r. IfSome r (λ _. left ≡ [] → ⊥)) }
@@ -115,15 +110,12 @@ pub fn compact_run_back<A: Allocator + Clone>(
     // Except for `OutOfMemory`, the error is the first one: of writing the list, which is cut into
     // these tables, and then what is kept.
     ensures refused { let left = kept rules (unfiltered items.items) in
-        (tables : List (List Entry)) →
-        AreTables default_options.data_block_size target_size items.items tables →
-        Faults result (both_fault target_size items.items tables left) }
+        OnTablesOf target_size items.items (λ tables.
+        Faults result (both_fault target_size items.items tables left)) }
     // If the tables of the list fit, and then those of what is kept, with enough ids left, the only
     // error is `OutOfMemory`.
-    ensures taken { let left = kept rules (unfiltered items.items) in
-        (first : FitsAsTables (Some 1) target_size items.items) →
-        FitsAsTables (ids_behind (Some 1) target_size (length first.tables)) target_size left →
-        IfErr result (λ e. e ≡ OutOfMemory) }
+    ensures taken { IfBothFit target_size items.items (kept rules (unfiltered items.items))
+        (IfErr result (λ e. e ≡ OutOfMemory)) }
 {
     let run = write_and_compact(&alloc, items, target_size, rules)?;
     match run {

@@ -12,8 +12,11 @@
 //! compacted, and reads return what the list says. The proofs use the contracts of the calls alone.
 #![tactic(auto)]
 
-ghost use Rattle.std.specs.Prelude.{◌≡◌, ◌-◌, ◌^◌, ◌≤◌, [], IfErr, IfOk, List, MatchOption, Some};
-ghost use Rattle.std.specs.Prelude.{false, length, min, true, ℕ};
+ghost use Rattle.std.specs.Prelude.{◌≡◌, ◌-◌, ◌^◌, [], IfErr, IfOk, List, MatchOption, Some};
+ghost use Rattle.std.specs.Prelude.{false, length, min, true};
+ghost use Rattle.example_calling.specs.Reads.{OnYielded};
+ghost use Rattle.example_calling.specs.Written.{SeesAlike};
+ghost use Rattle.lsm_runs.specs.RunLists.{OnLists};
 ghost use Rattle.lsm_tables.specs.Words as spec;
 ghost use Rattle.std.specs.Iterator.{IsFinite};
 ghost use Rattle.std.specs.Option.{option_map_or};
@@ -127,13 +130,11 @@ pub fn compact_below<A: Allocator + Clone>(
 ) -> Result<(Option<Run<Table<A>, A>>, TableIds), Error>
     requires { spec.AreCompactable (spec.each_run runs.now) }
     ensures seen { (lists : spec.TableLists) → spec.RunsHold runs.now lists →
-        IfOk result (λ r. (es : List spec.Entry) × MatchOption r.0 (es ≡ [])
-        (λ run. spec.IsRunOfList es 0 run) × ((key : List ℕ) (bound : ℕ) → watermark ≤ bound →
-        spec.seen es key bound ≡ spec.seen (spec.union_in lists) key bound)) }
+        IfOk result (λ r. SeesAlike watermark (spec.union_in lists) r.0) }
     ensures ids { IfOk result (λ r. r.1 ≡ spec.ids_behind ids target (option_map_or length r.0 0)) }
-    ensures refused { (lists : spec.TableLists) → spec.RunsHold runs.now lists →
-        IfErr result (λ e. spec.is_memory e ≡ false → spec.tables_fault ids target 0
-        (spec.kept_in (spec.rules_by watermark true false) lists) ≡ Some e) }
+    ensures refused { OnLists runs.now (λ lists. IfErr result (λ e. spec.is_memory e ≡ false →
+        spec.tables_fault ids target 0 (spec.kept_in (spec.rules_by watermark true false) lists)
+        ≡ Some e)) }
 {
     let rules = Rules {
         watermark,
@@ -155,9 +156,9 @@ pub fn count_below<A: Allocator + Clone>(
     runs: &[Arc<Run<Table<A>, A>, A>],
     seqno: SeqNo,
 ) -> Result<u64, Error>
-    ensures exact { (lists : spec.TableLists) → spec.RunsHold runs.now lists →
+    ensures exact { OnLists runs.now (λ lists.
         let found = spec.newest (spec.numbered_below seqno (spec.union_in lists)) in
-        IfOk result (λ count. count ≡ min (length found) (2 ^ 64 - 1)) }
+        IfOk result (λ count. count ≡ min (length found) (2 ^ 64 - 1))) }
     ensures memory { (lists : spec.TableLists) → spec.RunsHold runs.now lists →
         IfErr result (λ e. e ≡ spec.OutOfMemory) }
 {
@@ -172,14 +173,12 @@ fn count_newest<S: DoubleEndedIterator<Item = IterItem<A>> + Drop, A: Allocator>
 ) -> Result<u64, Error>
     requires can { ⟦<NewestOf<S, A> as Iterator>⟧.can_next items }
     requires finite { IsFinite (⟦<NewestOf<S, A> as Iterator>⟧.remaining items) }
-    ensures exact { let gives = ⟦<NewestOf<S, A> as Iterator>⟧.next_gives in
-        let back_gives = ⟦<NewestOf<S, A> as DoubleEndedIterator>⟧.next_back_gives in
-        (es : List spec.Entry) → spec.YieldsList gives back_gives es items →
-        IfOk result (λ count. count ≡ min (length es) (2 ^ 64 - 1)) }
-    ensures memory { let gives = ⟦<NewestOf<S, A> as Iterator>⟧.next_gives in
-        let back_gives = ⟦<NewestOf<S, A> as DoubleEndedIterator>⟧.next_back_gives in
-        (es : List spec.Entry) → spec.YieldsList gives back_gives es items →
-        IfErr result (λ e. e ≡ spec.OutOfMemory) }
+    ensures exact { OnYielded ⟦<NewestOf<S, A> as Iterator>⟧.next_gives
+        ⟦<NewestOf<S, A> as DoubleEndedIterator>⟧.next_back_gives items (λ es.
+        IfOk result (λ n. n ≡ min (length es) (2 ^ 64 - 1))) }
+    ensures memory { OnYielded ⟦<NewestOf<S, A> as Iterator>⟧.next_gives
+        ⟦<NewestOf<S, A> as DoubleEndedIterator>⟧.next_back_gives items (λ _.
+        IfErr result (λ e. e ≡ spec.OutOfMemory)) }
 {
     count(items)
 }

@@ -1,7 +1,8 @@
 //! All reads of one table.
 ghost use Rattle.std.specs.Prelude.{◌≡◌, [], IfErr, IfOk, List};
 ghost use Rattle.sst_entries.specs.declared.error.Error.TheVariants.{OutOfMemory};
-ghost use Rattle.lsm_readers.specs.Words.{YieldsAll, YieldsWithin, Entry, StoresList};
+ghost use Rattle.example_calling.specs.Reads.{RangesRead, ReadsEachWay};
+ghost use Rattle.lsm_readers.specs.Words.{Entry, StoresList};
 ghost use Rattle.sst_entries.specs.Error.{Faults};
 ghost use Rattle.lsm_runs.specs.compaction.Written.{ReadsList, reads_fault};
 
@@ -23,12 +24,8 @@ fn ranges_of<A: Allocator + Clone>(
     lower: Bound<UserKey<A>>,
     upper: Bound<UserKey<A>>,
 ) -> Result<Ranges<A>, Error>
-    ensures list { let gives = ⟦<Iter<A> as Iterator>⟧.next_gives in
-        let back_gives = ⟦<Iter<A> as DoubleEndedIterator>⟧.next_back_gives in
-        let g = table.now.global_seqno in
-        (es : List Entry) → StoresList table.now.bytes es → IfOk result (λ ranges.
-        YieldsWithin gives back_gives lower upper es g ranges.0
-        × YieldsAll gives back_gives es g ranges.1) }
+    ensures list { RangesRead ⟦<Iter<A> as Iterator>⟧.next_gives
+        ⟦<Iter<A> as DoubleEndedIterator>⟧.next_back_gives table.now lower upper result }
     ensures err { IfErr result (λ e. e ≡ OutOfMemory) }
 {
     let range = table.range(lower, upper)?;
@@ -75,13 +72,9 @@ pub fn read_each_way<A: Allocator + Clone>(
     lower: Bound<UserKey<A>>,
     upper: Bound<UserKey<A>>,
 ) -> Result<(PointAndScan<A>, Ranges<A>), Error>
-    ensures list { let gives = ⟦<Iter<A> as Iterator>⟧.next_gives in
-        let back_gives = ⟦<Iter<A> as DoubleEndedIterator>⟧.next_back_gives in
-        let g = table.now.global_seqno in
-        (es : List Entry) → StoresList table.now.bytes es → IfOk result (λ read.
-        ReadsList es g key.now seqno read.0.0 read.0.1
-        × YieldsWithin gives back_gives lower upper es g read.1.0
-        × YieldsAll gives back_gives es g read.1.1) }
+    ensures list { ReadsEachWay ⟦<Iter<A> as Iterator>⟧.next_gives
+        ⟦<Iter<A> as DoubleEndedIterator>⟧.next_back_gives table.now key.now seqno lower upper
+        result }
     // Whatever the table's bytes, except for `OutOfMemory`, the error is that of the point read, or
     // else of the scan.
     ensures refused { Faults result (reads_fault table.now key.now seqno) }

@@ -1,9 +1,10 @@
 //! Compacting a part of several runs, and reading the runs before and after.
-ghost use Rattle.std.specs.Prelude.{◌≡◌, ◌∷◌, ◌++◌, ◌⊎◌, [], IfErr, IfOk, MatchOption, OnOk};
-ghost use Rattle.std.specs.Prelude.{map};
+ghost use Rattle.std.specs.Prelude.{◌≡◌, ◌∷◌, ◌++◌, [], IfErr, IfOk, MatchOption, OnOk, map};
+ghost use Rattle.example_calling.specs.Reads.{OnSides, ReadsAfter, ReadsAlike, ReadsBefore};
+ghost use Rattle.example_calling.specs.Reads.{ReadsSides, ReadsSidesKept};
+ghost use Rattle.lsm_runs.specs.RunLists.{OnLists};
 ghost use Rattle.lsm_tables.specs.Words as spec;
 ghost use Rattle.std.specs.Arc.{arc_value};
-ghost use Rattle.lsm_sorted.specs.ReadLaw.{IsPlain};
 
 use crate::Reads;
 use crate::reads::read_runs;
@@ -60,20 +61,16 @@ fn read_side_by_side<A: Allocator + Clone>(
     seqno: SeqNo,
     range: (Bound<UserKey<A>>, Bound<UserKey<A>>),
 ) -> Result<Reads<A>, Error>
-    ensures list { let gives = ⟦<NewestOfRuns<A> as Iterator>⟧.next_gives in
-        let back_gives = ⟦<NewestOfRuns<A> as DoubleEndedIterator>⟧.next_back_gives in
-        (fs ps bs : spec.TableLists) → spec.HoldSides (spec.each_run front.now)
-        (spec.each_run part.now) (spec.each_run behind.now) fs ps bs →
-        IfOk result (spec.ReadsOf gives back_gives key.now seqno range.0 range.1
-        (spec.union_in (fs ++ (ps ++ bs)))) }
+    ensures list { ReadsSides ⟦<NewestOfRuns<A> as Iterator>⟧.next_gives
+        ⟦<NewestOfRuns<A> as DoubleEndedIterator>⟧.next_back_gives key.now seqno range
+        front.now part.now behind.now result }
     ensures can { IfOk result (λ read.
         spec.CanYield ⟦<NewestOfRuns<A> as Iterator>⟧.next_gives
         ⟦<NewestOfRuns<A> as DoubleEndedIterator>⟧.next_back_gives
         ⟦<NewestOfRuns<A> as Iterator>⟧.can_next
         ⟦<NewestOfRuns<A> as DoubleEndedIterator>⟧.can_next_back read.1) }
-    ensures taken { (fs ps bs : spec.TableLists) → spec.HoldSides (spec.each_run front.now)
-        (spec.each_run part.now) (spec.each_run behind.now) fs ps bs →
-        IfErr result (λ e. e ≡ spec.OutOfMemory) }
+    ensures taken { OnSides front.now part.now behind.now (λ _ _ _.
+        IfErr result (λ e. e ≡ spec.OutOfMemory)) }
 {
     let runs = side_by_side(alloc, front, part, behind)?;
     read_runs(alloc, &runs, key, seqno, range)
@@ -89,20 +86,16 @@ fn read_within<A: Allocator + Clone>(
     seqno: SeqNo,
     range: &(Bound<UserKey<A>>, Bound<UserKey<A>>),
 ) -> Result<Reads<A>, Error>
-    ensures list { let gives = ⟦<NewestOfRuns<A> as Iterator>⟧.next_gives in
-        let back_gives = ⟦<NewestOfRuns<A> as DoubleEndedIterator>⟧.next_back_gives in
-        let low = range.now.0 in let high = range.now.1 in (fs ps bs : spec.TableLists) →
-        spec.HoldSides (spec.each_run front.now) (spec.each_run part.now) (spec.each_run behind.now)
-        fs ps bs → IfOk result (spec.ReadsOf gives back_gives key.now seqno low high
-        (spec.union_in (fs ++ (ps ++ bs)))) }
+    ensures list { ReadsSides ⟦<NewestOfRuns<A> as Iterator>⟧.next_gives
+        ⟦<NewestOfRuns<A> as DoubleEndedIterator>⟧.next_back_gives key.now seqno
+        range.now front.now part.now behind.now result }
     ensures can { IfOk result (λ read.
         spec.CanYield ⟦<NewestOfRuns<A> as Iterator>⟧.next_gives
         ⟦<NewestOfRuns<A> as DoubleEndedIterator>⟧.next_back_gives
         ⟦<NewestOfRuns<A> as Iterator>⟧.can_next
         ⟦<NewestOfRuns<A> as DoubleEndedIterator>⟧.can_next_back read.1) }
-    ensures taken { (fs ps bs : spec.TableLists) → spec.HoldSides (spec.each_run front.now)
-        (spec.each_run part.now) (spec.each_run behind.now) fs ps bs →
-        IfErr result (λ e. e ≡ spec.OutOfMemory) }
+    ensures taken { OnSides front.now part.now behind.now (λ _ _ _.
+        IfErr result (λ e. e ≡ spec.OutOfMemory)) }
 {
     let bounds = (share(&range.0)?, share(&range.1)?);
     read_side_by_side(alloc, front, part, behind, key, seqno, bounds)
@@ -137,9 +130,9 @@ fn compact_part<A: Allocator + Clone>(
     created_at: Timestamp,
 ) -> Result<Vec<Arc<Run<Table<A>, A>, A>, A>, Error>
     requires { spec.AreCompactable (spec.each_run part.now) }
-    ensures made { (ps : spec.TableLists) → spec.RunsHold part.now ps →
-        IfOk result (λ v. (made : spec.TableLists) × (spec.joined_in made ≡ spec.kept_in rules ps)
-        × spec.RunsHoldLists (map arc_value v.items) made) }
+    ensures made { OnLists part.now (λ ps. IfOk result (λ v. (made : spec.TableLists)
+        × (spec.joined_in made ≡ spec.kept_in rules ps)
+        × spec.RunsHoldLists (map arc_value v.items) made)) }
     ensures refused { (ps : spec.TableLists) → spec.RunsHold part.now ps →
         spec.Faults result (spec.tables_fault ids target_size created_at (spec.kept_in rules ps)) }
     ensures taken { (ps : spec.TableLists) → spec.RunsHold part.now ps →
@@ -165,23 +158,19 @@ fn read_compacted<A: Allocator + Clone>(
     range: (Bound<UserKey<A>>, Bound<UserKey<A>>),
 ) -> Result<Reads<A>, Error>
     requires { spec.AreCompactable (spec.each_run part.now) }
-    ensures list { let gives = ⟦<NewestOfRuns<A> as Iterator>⟧.next_gives in
-        let back_gives = ⟦<NewestOfRuns<A> as DoubleEndedIterator>⟧.next_back_gives in
-        (fs ps bs : spec.TableLists) → spec.HoldSides (spec.each_run front.now)
-        (spec.each_run part.now) (spec.each_run behind.now) fs ps bs →
-        IfOk result (spec.ReadsKept gives back_gives key.now seqno range.0 range.1 rules fs ps bs) }
+    ensures list { ReadsSidesKept ⟦<NewestOfRuns<A> as Iterator>⟧.next_gives
+        ⟦<NewestOfRuns<A> as DoubleEndedIterator>⟧.next_back_gives key.now seqno
+        range rules front.now part.now behind.now result }
     ensures can { IfOk result (λ read.
         spec.CanYield ⟦<NewestOfRuns<A> as Iterator>⟧.next_gives
         ⟦<NewestOfRuns<A> as DoubleEndedIterator>⟧.next_back_gives
         ⟦<NewestOfRuns<A> as Iterator>⟧.can_next
         ⟦<NewestOfRuns<A> as DoubleEndedIterator>⟧.can_next_back read.1) }
-    ensures refused { (fs ps bs : spec.TableLists) → spec.HoldSides (spec.each_run front.now)
-        (spec.each_run part.now) (spec.each_run behind.now) fs ps bs →
-        spec.Faults result (spec.tables_fault ids target_size created_at (spec.kept_in rules ps)) }
-    ensures taken { (fs ps bs : spec.TableLists) → spec.HoldSides (spec.each_run front.now)
-        (spec.each_run part.now) (spec.each_run behind.now) fs ps bs →
+    ensures refused { OnSides front.now part.now behind.now (λ _ ps _. spec.Faults result
+        (spec.tables_fault ids target_size created_at (spec.kept_in rules ps))) }
+    ensures taken { OnSides front.now part.now behind.now (λ _ ps _.
         spec.FitsAsTables ids target_size (spec.kept_in rules ps) →
-        IfErr result (λ e. e ≡ spec.OutOfMemory) }
+        IfErr result (λ e. e ≡ spec.OutOfMemory)) }
 {
     let made = compact_part(alloc, part, rules, ids, target_size, created_at)?;
     read_side_by_side(alloc, front, &made, behind, key, seqno, range)
@@ -220,29 +209,18 @@ pub fn compact_part_back<A: Allocator + Clone>(
 ) -> Result<(Reads<A>, Reads<A>), Error>
     requires { spec.AreCompactable (spec.each_run part.now) }
     // The reads before are those of all lists together.
-    ensures before { let gives = ⟦<NewestOfRuns<A> as Iterator>⟧.next_gives in
-        let back_gives = ⟦<NewestOfRuns<A> as DoubleEndedIterator>⟧.next_back_gives in
-        (fs ps bs : spec.TableLists) → spec.HoldSides (spec.each_run front.now)
-        (spec.each_run part.now) (spec.each_run behind.now) fs ps bs →
-        IfOk result (λ r. spec.ReadsOf gives back_gives key.now seqno range.0 range.1
-        (spec.union_in (fs ++ (ps ++ bs))) r.0) }
+    ensures before { ReadsBefore ⟦<NewestOfRuns<A> as Iterator>⟧.next_gives
+        ⟦<NewestOfRuns<A> as DoubleEndedIterator>⟧.next_back_gives key.now seqno
+        range front.now part.now behind.now result }
     // The reads after are those of what is kept of the part's lists, and of the others.
-    ensures after { let gives = ⟦<NewestOfRuns<A> as Iterator>⟧.next_gives in
-        let back_gives = ⟦<NewestOfRuns<A> as DoubleEndedIterator>⟧.next_back_gives in
-        (fs ps bs : spec.TableLists) → spec.HoldSides (spec.each_run front.now)
-        (spec.each_run part.now) (spec.each_run behind.now) fs ps bs →
-        IfOk result (λ r. spec.ReadsKept gives back_gives key.now seqno range.0 range.1
-        rules fs ps bs r.1) }
+    ensures after { ReadsAfter ⟦<NewestOfRuns<A> as Iterator>⟧.next_gives
+        ⟦<NewestOfRuns<A> as DoubleEndedIterator>⟧.next_back_gives key.now seqno
+        range rules front.now part.now behind.now result }
     // Both show the same under the conditions of the law: point reads for a bound of the watermark
     // or above, ranges always.
-    ensures alike { let gives = ⟦<NewestOfRuns<A> as Iterator>⟧.next_gives in
-        let back_gives = ⟦<NewestOfRuns<A> as DoubleEndedIterator>⟧.next_back_gives in
-        (fs ps bs : spec.TableLists) → spec.HoldSides (spec.each_run front.now)
-        (spec.each_run part.now) (spec.each_run behind.now) fs ps bs →
-        spec.IsStrict (spec.union_in (fs ++ (ps ++ bs))) → IsPlain rules (spec.union_in ps)
-        ⊎ spec.AllNewer (spec.union_in ps) (spec.union_in (fs ++ bs)) →
-        IfOk result (λ r. spec.ShowAlike gives
-        back_gives key.now seqno range.0 range.1 rules.watermark r.0 r.1) }
+    ensures alike { ReadsAlike ⟦<NewestOfRuns<A> as Iterator>⟧.next_gives
+        ⟦<NewestOfRuns<A> as DoubleEndedIterator>⟧.next_back_gives key.now seqno
+        range rules front.now part.now behind.now result }
     // Both ends of both ranges may be called any number of times.
     ensures can { let can =
         spec.CanYield ⟦<NewestOfRuns<A> as Iterator>⟧.next_gives
@@ -252,14 +230,12 @@ pub fn compact_part_back<A: Allocator + Clone>(
         IfOk result (λ r. can r.0.1 × can r.1.1) }
     // Except for `OutOfMemory`, the error is the first one of writing what is kept: reading does
     // not fail.
-    ensures refused { (fs ps bs : spec.TableLists) → spec.HoldSides (spec.each_run front.now)
-        (spec.each_run part.now) (spec.each_run behind.now) fs ps bs →
-        spec.Faults result (spec.tables_fault ids target_size created_at (spec.kept_in rules ps)) }
+    ensures refused { OnSides front.now part.now behind.now (λ _ ps _. spec.Faults result
+        (spec.tables_fault ids target_size created_at (spec.kept_in rules ps))) }
     // If the tables of what is kept fit and enough ids remain, the only error is `OutOfMemory`.
-    ensures taken { (fs ps bs : spec.TableLists) → spec.HoldSides (spec.each_run front.now)
-        (spec.each_run part.now) (spec.each_run behind.now) fs ps bs →
+    ensures taken { OnSides front.now part.now behind.now (λ _ ps _.
         spec.FitsAsTables ids target_size (spec.kept_in rules ps) →
-        IfErr result (λ e. e ≡ spec.OutOfMemory) }
+        IfErr result (λ e. e ≡ spec.OutOfMemory)) }
 {
     compaction_law();
     let before = read_within(&alloc, front, part, behind, key, seqno, &range)?;

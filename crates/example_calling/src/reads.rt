@@ -1,5 +1,6 @@
 //! A point read and a range together, of several runs and of one.
 ghost use Rattle.std.specs.Prelude.{◌≡◌, ◌∷◌, ℕ, [], IfErr, IfOk, List, None, Ok};
+ghost use Rattle.example_calling.specs.Reads.{ReadsRun, ReadsSpans, ReadsUnion};
 ghost use Rattle.sst_entries.specs.Error.{Fails};
 ghost use Rattle.sst_entries.specs.declared.error.Error.TheVariants.{OutOfMemory};
 ghost use Rattle.lsm_tables.specs.Words as spec;
@@ -22,11 +23,9 @@ pub(crate) fn read_runs<A: Allocator + Clone>(
     seqno: SeqNo,
     range: (Bound<UserKey<A>>, Bound<UserKey<A>>),
 ) -> Result<Reads<A>, Error>
-    ensures list { let gives = ⟦<NewestOfRuns<A> as Iterator>⟧.next_gives in
-        let back_gives = ⟦<NewestOfRuns<A> as DoubleEndedIterator>⟧.next_back_gives in
-        (lists : spec.TableLists) → spec.RunsHold runs.now lists →
-        IfOk result (spec.ReadsOf gives back_gives key.now seqno range.0 range.1
-        (spec.union_in lists)) }
+    ensures list { ReadsUnion ⟦<NewestOfRuns<A> as Iterator>⟧.next_gives
+        ⟦<NewestOfRuns<A> as DoubleEndedIterator>⟧.next_back_gives key.now seqno range
+        runs.now result }
     ensures can { IfOk result (λ read. spec.CanYield ⟦<NewestOfRuns<A> as Iterator>⟧.next_gives
         ⟦<NewestOfRuns<A> as DoubleEndedIterator>⟧.next_back_gives
         ⟦<NewestOfRuns<A> as Iterator>⟧.can_next
@@ -40,10 +39,10 @@ pub(crate) fn read_runs<A: Allocator + Clone>(
     ensures fails { spec.AreRunsInOrder runs.now →
         IfErr result (λ e. Fails e (spec.runs_result key.now seqno None (spec.each_run runs.now))) }
     // The range is over the spans within the bounds.
-    ensures steps { let gives = ⟦<NewestOfRuns<A> as Iterator>⟧.next_gives in
-        let back_gives = ⟦<NewestOfRuns<A> as DoubleEndedIterator>⟧.next_back_gives in
-        spec.AreRunsInOrder runs.now → IfOk result (λ read. spec.IsOverSpans gives
-        back_gives range.0 range.1 (spec.each_run runs.now) read.1) }
+    ensures steps { spec.AreRunsInOrder runs.now →
+        ReadsSpans ⟦<NewestOfRuns<A> as Iterator>⟧.next_gives
+        ⟦<NewestOfRuns<A> as DoubleEndedIterator>⟧.next_back_gives range
+        (spec.each_run runs.now) result }
 {
     let found = get_runs(runs, key, seqno)?;
     let stream = range_runs(alloc.clone()?, runs, range)?;
@@ -66,10 +65,9 @@ pub fn read_run<A: Allocator + Clone>(
     range: (Bound<UserKey<A>>, Bound<UserKey<A>>),
 ) -> Result<Reads<A>, Error>
     // For tables of a list, global seqnos applied, they read the list.
-    ensures list { let gives = ⟦<NewestOfRuns<A> as Iterator>⟧.next_gives in
-        let back_gives = ⟦<NewestOfRuns<A> as DoubleEndedIterator>⟧.next_back_gives in
-        (es : List spec.Entry) (g : ℕ) → spec.IsRunOfList es g run →
-        IfOk result (spec.ReadsOf gives back_gives key.now seqno range.0 range.1 (spec.lift es g)) }
+    ensures list { ReadsRun ⟦<NewestOfRuns<A> as Iterator>⟧.next_gives
+        ⟦<NewestOfRuns<A> as DoubleEndedIterator>⟧.next_back_gives key.now seqno range
+        run result }
     // Both ends of the range may be called any number of times.
     ensures can { IfOk result (λ read. spec.CanYield ⟦<NewestOfRuns<A> as Iterator>⟧.next_gives
         ⟦<NewestOfRuns<A> as DoubleEndedIterator>⟧.next_back_gives
@@ -84,10 +82,10 @@ pub fn read_run<A: Allocator + Clone>(
     ensures fails { spec.IsInOrder spec.range_of run →
         IfErr result (λ e. Fails e (spec.runs_result key.now seqno None (run ∷ []))) }
     // The range is over the span within the bounds.
-    ensures steps { let gives = ⟦<NewestOfRuns<A> as Iterator>⟧.next_gives in
-        let back_gives = ⟦<NewestOfRuns<A> as DoubleEndedIterator>⟧.next_back_gives in
-        spec.IsInOrder spec.range_of run →
-        IfOk result (λ read. spec.IsOverSpans gives back_gives range.0 range.1 (run ∷ []) read.1) }
+    ensures steps { spec.IsInOrder spec.range_of run →
+        ReadsSpans ⟦<NewestOfRuns<A> as Iterator>⟧.next_gives
+        ⟦<NewestOfRuns<A> as DoubleEndedIterator>⟧.next_back_gives range
+        (run ∷ []) result }
 {
     let runs = [Arc::new(alloc.clone()?, run)?];
     read_runs(&alloc, &runs, key, seqno, range)

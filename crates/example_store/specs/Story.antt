@@ -57,10 +57,18 @@ pub record IsOwnRun (bound : ℕ) (run : List OpenTable) : Type 0 where
   pub order : IsInOrder range_of run
   pub tables : AllByRecursion (IsOwnTable bound) run
 
+-- several such runs
+abbrev pub AreOwnRuns : ℕ → List (List OpenTable) → Type 0
+AreOwnRuns bound runs = AllByRecursion (IsOwnRun bound) runs
+
 -- runs of such tables, which may be compacted
 pub record HoldBelow (bound : ℕ) (runs : List (List OpenTable)) : Type 0 where
-  pub own : AllByRecursion (IsOwnRun bound) runs
+  pub own : AreOwnRuns bound runs
   pub able : AreCompactable runs
+
+-- this holds of any lists that the tables of these runs hold
+abbrev pub OnRunLists : List (List OpenTable) → (List (List (List Entry)) → Type 0) → Type 0
+OnRunLists runs P = (lists : List (List (List Entry))) → RunsHoldLists runs lists → P lists
 
 -- entries with seqnos from one on, and below another, and no weak tombstone among them
 abbrev pub AreNumbered : ℕ → ℕ → List Entry → Type 0

@@ -19,11 +19,13 @@ pub use Rattle.lsm_tables.specs.Words.{sort_entries, tables_fault, union_in, wit
 unfoldable pub use Rattle.lsm_tables.specs.Words.{point}
 pub use Rattle.example_store.specs.Closed.{IsClosed, StoreLists, bytes_by_run, files_in}
 pub use Rattle.example_store.specs.Faulty.{IsFirstFault, IsOpenFault, NamesFile, NamesInRun}
-pub use Rattle.example_store.specs.Ids.{AreMadeOf, HasFlushed, IsTakenIn, StaysOrFlushes}
+pub use Rattle.example_store.specs.Ids.{AreAllCut, AreMadeOf, FailsToFlush, FailsToWrite}
+pub use Rattle.example_store.specs.Ids.{HasFlushed, IsTakenIn, StaysOrFlushes}
 pub use Rattle.example_store.specs.Part.{IsPartKept, front_runs, part_runs}
-pub use Rattle.example_store.specs.Recent.{IsPut}
-pub use Rattle.example_store.specs.Story.{AreNumbered, Holding, IsOwn, IsOwnRun, IsOwnTable}
-pub use Rattle.example_store.specs.Story.{IsStore, IsReported, option_list, put_fault, value_in}
+pub use Rattle.example_store.specs.Recent.{IsPut, YieldsPart}
+pub use Rattle.example_store.specs.Story.{AreNumbered, AreOwnRuns, Holding, IsOwn, IsOwnRun}
+pub use Rattle.example_store.specs.Story.{IsOwnTable, IsStore, IsReported, OnRunLists, option_list}
+pub use Rattle.example_store.specs.Story.{put_fault, value_in}
 pub use Rattle.example_store.specs.declared.store.open.FileFault.TheVariants.{Unopened}
 pub use Rattle.example_store.specs.declared.store.open.OpenError.TheVariants.{File, NoFile}
 pub use Rattle.example_store.specs.declared.store.open.OpenError.TheVariants.{OldestTooHigh}

@@ -108,10 +108,9 @@ impl<A: Allocator + Clone> Memtable<A> {
         alloc: &A,
         bounds: &(Bound<UserKey<A>>, Bound<UserKey<A>>),
     ) -> Result<IntoIter<IterItem<A>, A>, Error>
-        ensures list { let gives = ⟦<IntoIter<IterItem<A>, A> as Iterator>⟧.next_gives in
-            let back_gives = ⟦<IntoIter<IterItem<A>, A> as DoubleEndedIterator>⟧.next_back_gives in
-            IfOk result (spec.YieldsList gives back_gives
-            (spec.within bounds.now.0 bounds.now.1 self.now)) }
+        ensures list { spec.YieldsPart ⟦<IntoIter<IterItem<A>, A> as Iterator>⟧.next_gives
+            ⟦<IntoIter<IterItem<A>, A> as DoubleEndedIterator>⟧.next_back_gives bounds.now.0
+            bounds.now.1 self.now result }
         ensures strict { spec.IsStrict self.now }
         // Both ends may be called, and it ends.
         ensures can { IfOk result (spec.CanYield

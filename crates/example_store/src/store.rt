@@ -147,9 +147,7 @@ impl<A: Allocator + Clone> Store<A> {
             (result ≡ Err e) × (self.new ≡ self.old) }
         // Otherwise, except for `OutOfMemory`, the error is that of flushing a full memtable.
         ensures refused { spec.put_fault self.old.next key.now value.now ≡ None →
-            IfErr result (λ e. spec.is_memory e ≡ false →
-            (self.old.limit ≤ length self.old.recent) ×
-            (spec.tables_fault self.old.ids self.old.target 0 self.old.recent ≡ Some e)) }
+            IfErr result (spec.FailsToFlush self.old) }
     {
         self.write(key, value, ValueType::Value)
     }
@@ -180,9 +178,7 @@ impl<A: Allocator + Clone> Store<A> {
         ensures fault { (e : Error) → spec.put_fault self.old.next key.now [] ≡ Some e →
             (result ≡ Err e) × (self.new ≡ self.old) }
         ensures refused { spec.put_fault self.old.next key.now [] ≡ None →
-            IfErr result (λ e. spec.is_memory e ≡ false →
-            (self.old.limit ≤ length self.old.recent) ×
-            (spec.tables_fault self.old.ids self.old.target 0 self.old.recent ≡ Some e)) }
+            IfErr result (spec.FailsToFlush self.old) }
     {
         self.write(key, b"", ValueType::Tombstone)
     }
@@ -208,9 +204,7 @@ impl<A: Allocator + Clone> Store<A> {
         ensures fault { (e : Error) → spec.put_fault self.old.next key.now value.now ≡ Some e →
             (result ≡ Err e) × (self.new ≡ self.old) }
         ensures refused { spec.put_fault self.old.next key.now value.now ≡ None →
-            IfErr result (λ e. spec.is_memory e ≡ false →
-            (self.old.limit ≤ length self.old.recent) ×
-            (spec.tables_fault self.old.ids self.old.target 0 self.old.recent ≡ Some e)) }
+            IfErr result (spec.FailsToFlush self.old) }
     {
         check_write(self.next, key, value)?;
         self.make_room()?;
@@ -230,9 +224,7 @@ impl<A: Allocator + Clone> Store<A> {
         ensures flushed { self.old.limit ≤ length self.old.recent →
             OnOk result (spec.HasFlushed self.old self.new × (self.new.recent ≡ [])) }
         ensures err { OnErr result (self.new ≡ self.old) }
-        ensures refused { IfErr result (λ e. spec.is_memory e ≡ false →
-            (self.old.limit ≤ length self.old.recent) ×
-            (spec.tables_fault self.old.ids self.old.target 0 self.old.recent ≡ Some e)) }
+        ensures refused { IfErr result (spec.FailsToFlush self.old) }
     {
         if self.memtable.len() < self.limit {
             return Ok(());
@@ -280,8 +272,7 @@ impl<A: Allocator + Clone> Store<A> {
         ensures flushed { OnOk result (spec.HasFlushed self.old self.new) }
         ensures err { OnErr result (self.new ≡ self.old) }
         // Except for `OutOfMemory`, the error is that of writing the entries as tables.
-        ensures refused { IfErr result (λ e. spec.is_memory e ≡ false →
-            spec.tables_fault self.old.ids self.old.target 0 self.old.recent ≡ Some e) }
+        ensures refused { IfErr result (spec.FailsToWrite self.old self.old.recent) }
     {
         let items = self.memtable.share(&self.alloc)?;
         let (run, ids) = run_of(&self.alloc, self.ids, self.target, items)?;
@@ -336,9 +327,9 @@ impl<A: Allocator + Clone> Store<A> {
             self.now.oldest ≤ snapshot → IfOk result (λ value.
             spec.option_copied value ≡ spec.value_in ws key.now snapshot) }
         // At any snapshot, it is the value in the entries of the memtable and of the tables' lists.
-        ensures read { (lists : spec.TableLists) → spec.RunsHoldLists self.now.runs lists →
+        ensures read { spec.OnRunLists self.now.runs (λ lists.
             IfOk result (λ value. spec.option_copied value ≡ spec.value_in
-            (self.now.recent ++ spec.union_in lists) key.now snapshot) }
+            (self.now.recent ++ spec.union_in lists) key.now snapshot)) }
         ensures memory { IfErr result (λ e. e ≡ OutOfMemory) }
     {
         let found = find_in(&self.memtable, &self.runs, key, snapshot)?;

@@ -7,9 +7,10 @@ use Rattle.sst_entries.specs.declared.error.Error.{Error}
 use Rattle.sst_entries.specs.Entry.{Entry}
 use Rattle.lsm_sorted.specs.version.KeyRange.{Interval}
 use Rattle.lsm_iters.specs.Bounds.{lower_edge, upper_edge}
+use Rattle.lsm_iters.specs.Range.{Range}
 use Rattle.lsm_readers.specs.BlockIndexes.{table_index}
 use Rattle.lsm_readers.specs.point.Parts.{key_range_result}
-use Rattle.lsm_readers.specs.Ranges.{index_within, range_results}
+use Rattle.lsm_readers.specs.Ranges.{IsRangeOf, index_within, range_results}
 use Rattle.lsm_readers.specs.point.Table.{OpenTable}
 
 -- a table, and the bounds within which it is read
@@ -17,6 +18,10 @@ pub record Part : Type 0 where
   pub table : OpenTable
   pub low : Bound (List ℕ)
   pub high : Bound (List ℕ)
+
+-- a reader of it before any call
+abbrev pub IsPartReader : {A : Type 0} → Part → Range A → Type 0
+IsPartReader p reader = IsRangeOf p.table p.low p.high reader
 
 -- the results that a reader of it yields
 abbrev pub part_read_results : Part → List (Result Entry Error)

@@ -5,9 +5,8 @@ pub use Rattle.lsm_sorted.specs.version.KeyRange.{key_bound}
 pub use Rattle.lsm_sorted.specs.version.Run.{ArePlacesOf, IsInOrder, overlap_indexes}
 pub use Rattle.lsm_iters.specs.walk.Parts.{LoadGives}
 pub use Rattle.lsm_iters.specs.Range.{range_remains}
-pub use Rattle.lsm_readers.specs.Ranges.{IsRangeOf}
 pub use Rattle.lsm_readers.specs.point.Table.{OpenTable}
-pub use Rattle.lsm_run_parts.specs.RunParts.{ends_given, range_of, ranges_of, span_of, span_part_at}
-pub use Rattle.lsm_run_parts.specs.RunParts.{span_parts}
+pub use Rattle.lsm_run_parts.specs.RunParts.{IsPartReader, ends_given, range_of, ranges_of, span_of}
+pub use Rattle.lsm_run_parts.specs.RunParts.{span_part_at, span_parts}
 pub use Rattle.lsm_run_parts.specs.Tables.{EndsTables, KeepsTables, coming_tables, opened_tables}
 pub use Rattle.lsm_run_parts.specs.Tables.{place_taken}

@@ -55,8 +55,7 @@ fn reader_at<A: Allocator + Clone>(
     requires { place < length tables.now }
     ensures ok { let span = spec.span_of ends range.now.0 range.now.1 in
         (t : spec.OpenTable) → slice_get tables.now place ≡ Some t →
-        let p = spec.span_part_at span place t in
-        IfOk result (λ reader. spec.IsRangeOf p.table p.low p.high reader) }
+        IfOk result (spec.IsPartReader (spec.span_part_at span place t)) }
     ensures err { IfErr result (λ e. e ≡ spec.OutOfMemory) }
 {
     let table = &tables[place];

@@ -87,6 +87,12 @@ pub record YieldTogether {S : Type 0} (front back : S → Option (Result Entry E
   pub ascend : AllByRecursion Ascends yielded
   pub yield_each : AllZip (λ s es. YieldsList front back es s) sources yielded
 
+-- this holds of any lists that sources yield together
+abbrev pub OnYieldedLists : {S : Type 0} → (S → Option (Result Entry Error) → S → Type 0)
+    → List S → (TableLists → Type 0) → Type 0
+OnYieldedLists next sources P =
+    (lists : TableLists) → YieldTogether next nowhere sources (map joined lists) → P lists
+
 -- each source yields the part within the bounds of one of these lists, which are sorted
 pub record YieldWithin {S : Type 0} (front back : S → Option (Result Entry Error) → S → Type 0)
     (low high : Bound (List ℕ)) (sources : List S) (lists : List (List Entry)) : Type 0 where

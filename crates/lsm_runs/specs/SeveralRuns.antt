@@ -89,3 +89,7 @@ pub record LoadsEach (most : ℕ) (o : Opened) : Type 0 where
 -- the sorted entries of several runs' lists
 abbrev pub union_in : List (List (List Entry)) → List Entry
 union_in lists = union_of (map (λ run. ok_results (joined run)) lists)
+
+-- the same as results without errors
+abbrev pub union_results : List (List (List Entry)) → List (Result Entry Error)
+union_results lists = ok_results (union_in lists)

@@ -1,7 +1,8 @@
 -- The readers of several runs within two bounds, before any call, and the stream over them.
-use Rattle.std.specs.Prelude.{ℕ, All, List, [], ◌∷◌, ◌++◌, map, Option, Some, None, Result}
+use Rattle.std.specs.Prelude.{ℕ, All, IfOk, List, [], ◌∷◌, ◌++◌, map, Option, Some, None, Result}
 use Rattle.std.specs.List.{AllZip, flat_map}
 use Rattle.std.specs.declared.ops.Bound.{Bound}
+use Rattle.std.specs.declared.sync.Arc.{Arc}
 use Rattle.either.specs.declared.Either.{Either}
 use Rattle.either.specs.declared.Either.TheVariants.{Left, Right}
 use Rattle.sst_entries.specs.declared.error.Error.{Error}
@@ -16,6 +17,7 @@ use Rattle.lsm_sorted.specs.NewestLaws.{AnswersNewest, IsNewestOf}
 use Rattle.lsm_sorted.specs.declared.below.Below.{Below}
 use Rattle.lsm_sorted.specs.declared.mvcc_stream.MvccStream.{MvccStream}
 use Rattle.lsm_run_parts.specs.RunParts.{RunSpan, ranges_of, span_of}
+use Rattle.lsm_runs.specs.RunLists.{AreRunsInOrder, each_run}
 use Rattle.lsm_runs.specs.RunRange.{IsRunOf, RunGives, RunRange, back_tables, front_tables}
 use Rattle.lsm_runs.specs.RunRange.{run_left}
 
@@ -31,6 +33,12 @@ abbrev pub spans_within : Bound (List ℕ) → Bound (List ℕ) → List (List O
 spans_within low high runs =
     flat_map (λ tables. span_at tables low high (overlap_indexes low high (ranges_of tables))) runs
 
+-- readers of these spans, before any call
+abbrev pub AreReadersWithin : {A : Type 0} → Bound (List ℕ) → Bound (List ℕ)
+    → List (List OpenTable) → List (RunRange A) → Type 0
+AreReadersWithin low high runs readers =
+    AllZip (λ reader run. IsRunOf run.0 run.1 reader) readers (spans_within low high runs)
+
 -- a stream of newest versions before any call, over one reader of each of these spans. A reader
 -- yields the results of its tables up to its first error, `OutOfMemory` included, and nothing after
 -- it. For every list of ends, the stream steps over all entries, or over those left where an error
@@ -42,13 +50,23 @@ pub record IsOverSpans {A : Type 0}
     (low high : Bound (List ℕ)) (runs : List (List OpenTable))
     (s : MvccStream (Merger (RunRange A) A) (Result Entry Error)) : Type 0 where
   pub readers : List (RunRange A)
-  pub spans : AllZip (λ reader run. IsRunOf run.0 run.1 reader) readers (spans_within low high runs)
+  pub spans : AreReadersWithin low high runs readers
   pub yield_each : All (λ reader. YieldsEnding (RunGives front_of front_tables)
       (RunGives back_of back_tables) (λ _. Unit {0}) (λ _. Unit {0}) reader
       (run_left reader)) readers
   pub of : IsNewestOf readers s
   pub answers : AnswersNewest (RunGives front_of front_tables) (RunGives back_of back_tables)
       readers next next_back s
+
+-- for runs in order, a call returned such a stream
+abbrev pub StepsOverSpans : {A Z : Type 0}
+    (next next_back : MvccStream (Merger (RunRange A) A) (Result Entry Error)
+    → Option (Result Entry Error)
+    → MvccStream (Merger (RunRange A) A) (Result Entry Error) → Type 0)
+    → Bound (List ℕ) → Bound (List ℕ) → List (Arc (List OpenTable) Z)
+    → Result (MvccStream (Merger (RunRange A) A) (Result Entry Error)) Error → Type 0
+StepsOverSpans next next_back low high runs r =
+    AreRunsInOrder runs → IfOk r (IsOverSpans next next_back low high (each_run runs))
 
 -- the same over the entries of each of these readers that are below a seqno, and its errors
 pub record IsOverSpansBelow {A : Type 0}
@@ -60,7 +78,7 @@ pub record IsOverSpansBelow {A : Type 0}
     (low high : Bound (List ℕ)) (bound : ℕ) (runs : List (List OpenTable))
     (s : MvccStream (Merger (Below (RunRange A)) A) (Result Entry Error)) : Type 0 where
   pub readers : List (RunRange A)
-  pub spans : AllZip (λ reader run. IsRunOf run.0 run.1 reader) readers (spans_within low high runs)
+  pub spans : AreReadersWithin low high runs readers
   pub yield_each : All (λ reader. YieldsEnding (RunGives front_of front_tables)
       (RunGives back_of back_tables) (λ _. Unit {0}) (λ _. Unit {0}) reader
       (run_left reader)) readers
@@ -82,7 +100,7 @@ pub record IsOverSourcesBelow {S A : Type 0}
     (low high : Bound (List ℕ)) (bound : ℕ) (runs : List (List OpenTable)) (sources : List S)
     (s : MvccStream (Merger (Below (Either (RunRange A) S)) A) (Result Entry Error)) : Type 0 where
   pub readers : List (RunRange A)
-  pub spans : AllZip (λ reader run. IsRunOf run.0 run.1 reader) readers (spans_within low high runs)
+  pub spans : AreReadersWithin low high runs readers
   pub yield_each : All (λ reader. YieldsEnding (RunGives front_of front_tables)
       (RunGives back_of back_tables) (λ _. Unit {0}) (λ _. Unit {0}) reader
       (run_left reader)) readers

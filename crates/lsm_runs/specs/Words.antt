@@ -7,34 +7,34 @@ pub use Rattle.sst_entries.specs.Point.{point, within}
 pub use Rattle.sst_entries.specs.Stream.{CanYield, Lowers, back_of, first, front_of, nowhere}
 pub use Rattle.sst_blocks.specs.Opened.{none_opened}
 pub use Rattle.lsm_iters.specs.block_index.Yielded.{YieldsEnding}
-pub use Rattle.sst_blocks.specs.table.Chunks.{joined}
 pub use Rattle.sst_blocks.specs.table.Facts.{highest_seqno}
 pub use Rattle.sst_blocks.specs.table.Options.{default_options}
-pub use Rattle.lsm_sorted.specs.merge.InPlace.{merge_of}
-pub use Rattle.lsm_sorted.specs.merge.Union.{Ascends, entries_among, item_cmp, newest}
+pub use Rattle.lsm_sorted.specs.merge.Union.{item_cmp, newest}
 pub use Rattle.lsm_sorted.specs.version.Run.{ArePlacesOf, IsInOrder, overlap_indexes, table_of_key}
 pub use Rattle.lsm_readers.specs.point.Answer.{lift}
 pub use Rattle.lsm_readers.specs.point.Read.{DoesRead, Opens}
 pub use Rattle.lsm_readers.specs.point.Table.{OpenTable}
 pub use Rattle.lsm_iters.specs.walk.Ends.{taken_at}
-pub use Rattle.lsm_sorted.specs.Below.{YieldsBelow, below_of, below_results, numbered_below}
+pub use Rattle.lsm_sorted.specs.Below.{YieldsBelow, below_of, numbered_below}
 pub use Rattle.lsm_sorted.specs.Leading.{leading_of}
-pub use Rattle.lsm_sorted.specs.lending.LentNewest.{newest_results}
 pub use Rattle.lsm_sorted.specs.NewestLaws.{AnswersNewest, CanAskNewest, YieldsNewest, IsNewestOf}
 pub use Rattle.lsm_run_parts.specs.RunParts.{ends_given, range_of, span_of}
 pub use Rattle.lsm_runs.specs.RunRange.{IsRunOf, OpensAtMost, RunGives, back_tables, front_tables}
 pub use Rattle.lsm_runs.specs.RunRange.{run_left, run_of, run_size, tables_at}
-pub use Rattle.lsm_runs.specs.RunLists.{YieldTogether, YieldWithin, YieldsList, HoldLists}
+pub use Rattle.lsm_runs.specs.RunLists.{YieldWithin, YieldsList}
 pub use Rattle.lsm_runs.specs.RunLists.{AreRunsInOrder, CanLend, OnLists, RunsHold, RunsHoldLists}
 pub use Rattle.lsm_runs.specs.RunLists.{TableLists, each_run, single, span_list}
 pub use Rattle.lsm_runs.specs.RunScan.{BeginsNext, BeginsScan, IsScanOf, RunScansNext, ScansItem}
 pub use Rattle.lsm_runs.specs.RunScan.{early_scan_fault, lent_of_run, lent_of_scan, over_scan}
 pub use Rattle.lsm_runs.specs.RunScan.{run_scan_size, scan_fault, tables_between, tables_scan}
-pub use Rattle.lsm_runs.specs.RunYields.{IsReaderWithin, ReaderOpensFew, ReaderYieldsList}
+pub use Rattle.lsm_runs.specs.RunYields.{IfEachEnds, IsReaderWithin, ReaderOpensFew, ReaderYields}
+pub use Rattle.lsm_runs.specs.RunYields.{ReaderYieldsLeft, ReaderYieldsList, ReadersYield}
+pub use Rattle.lsm_runs.specs.RunYields.{RunsYieldAllBelow, RunsYieldNewest, RunsYieldNewestBelow}
 pub use Rattle.lsm_runs.specs.RunYields.{SpanOpensFew, SpanScans, SpanScansList, SpanYieldsList}
-pub use Rattle.lsm_runs.specs.RunYields.{ReaderYieldsLeft, span_scan}
-pub use Rattle.lsm_runs.specs.SpansRead.{IsOverSourcesBelow, IsOverSpans, IsOverSpansBelow}
-pub use Rattle.lsm_runs.specs.SpansRead.{spans_within, with_readers}
+pub use Rattle.lsm_runs.specs.RunYields.{span_scan}
+pub use Rattle.lsm_runs.specs.SpansRead.{AreReadersWithin, IsOverSourcesBelow}
+pub use Rattle.lsm_runs.specs.SpansRead.{IsOverSpansBelow, StepsOverSpans}
+pub use Rattle.lsm_runs.specs.SpansRead.{with_readers}
 pub use Rattle.lsm_runs.specs.SeveralRuns.{LoadsEach, is_older, loads_together, run_read}
 pub use Rattle.lsm_runs.specs.SeveralRuns.{run_read_behind, runs_read, runs_read_by_age, runs_result}
 pub use Rattle.lsm_runs.specs.SeveralRuns.{union_in, worth_asking}
@@ -42,10 +42,9 @@ pub use Rattle.lsm_runs.specs.LentRun.{OpensNext, ReaderLends, RunLends, Stands,
 pub use Rattle.lsm_runs.specs.LentRun.{over_run}
 pub use Rattle.lsm_sorted.specs.LentBelow.{LendsBelow, MayLendBelow, lent_below, lent_passes}
 pub use Rattle.lsm_sorted.specs.LentBelow.{only_below}
-pub use Rattle.lsm_runs.specs.LentNewestRuns.{LendsNewest, LendsResults, runs_results_within}
+pub use Rattle.lsm_runs.specs.LentNewestRuns.{LendsNewest, RunsLendNewest}
 pub use Rattle.std.specs.Arc.{arc_value}
 pub use Rattle.std.specs.Iterator.{IsFinite, at_most}
-pub use Rattle.std.specs.List.{AllByRecursion, AllZip}
 pub use Rattle.std.specs.Option.{option_and_then, option_map}
 pub use Rattle.sst_entries.specs.declared.error.Error.{Error}
 pub use Rattle.sst_entries.specs.declared.error.Error.TheVariants.{OutOfMemory}
@@ -56,4 +55,5 @@ pub use Rattle.lsm_iters.specs.walk.Walks.{WalkTakes}
 pub use Rattle.lsm_iters.specs.Range.{range_remains}
 pub use Rattle.lsm_iters.specs.Steps.{without_lent}
 pub use Rattle.lsm_run_parts.specs.Tables.{KeepsTables, coming_tables}
-pub use Rattle.lsm_runs.specs.RunPlaces.{IsThere, run_place, placed_in_run, placed_in_runs}
+pub use Rattle.lsm_runs.specs.RunPlaces.{IsThere, OnEntryStored, ReadsPlace, entry_stored, run_place}
+pub use Rattle.lsm_runs.specs.RunPlaces.{placed_in_run, placed_in_runs}

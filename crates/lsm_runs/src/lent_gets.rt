@@ -57,8 +57,7 @@ fn place_in_run<A: Allocator + Clone>(
 ) -> (Result<Option<RunPlace>, Error>, Opened)
     requires { key_hash ≡ spec.hash_of key.now }
     ensures read { spec.IsInOrder spec.range_of run.now →
-        spec.DoesRead (spec.result_map (spec.option_and_then (spec.placed_in_run run.now)) result.0)
-        (spec.run_read key.now seqno run.now) spec.none_opened result.1 }
+        spec.ReadsPlace run.now result (spec.run_read key.now seqno run.now) }
     ensures number { IfOk result.0 (λ found. IfSome found (λ p. p.run ≡ number)) }
     ensures there { IfOk result.0 (λ found. IfSome found (λ p.
         is_some (spec.placed_in_run run.now p) ≡ true)) }
@@ -152,11 +151,8 @@ fn place_in_run_behind<A: Allocator + Clone>(
     found: &Option<RunPlace>,
 ) -> (Result<Option<RunPlace>, Error>, Opened)
     requires { key_hash ≡ spec.hash_of key.now }
-    ensures read { (runs : List (List spec.OpenTable)) → IfSome found.now (spec.IsThere runs) →
-        spec.IsInOrder spec.range_of run.now →
-        let before = spec.option_and_then (spec.placed_in_runs runs) found.now in
-        spec.DoesRead (spec.result_map (spec.option_and_then (spec.placed_in_run run.now)) result.0)
-        (spec.run_read_behind key.now seqno before run.now) spec.none_opened result.1 }
+    ensures read { spec.OnEntryStored found.now (λ before. spec.IsInOrder spec.range_of run.now →
+        spec.ReadsPlace run.now result (spec.run_read_behind key.now seqno before run.now)) }
     ensures number { IfOk result.0 (λ next. IfSome next (λ p. p.run ≡ number)) }
     ensures there { IfOk result.0 (λ next. IfSome next (λ p.
         is_some (spec.placed_in_run run.now p) ≡ true)) }
@@ -188,14 +184,14 @@ pub fn place_in_runs_counted<A: Allocator + Clone>(
 ) -> (Result<Option<RunPlace>, Error>, Opened)
     // For runs in order, it is the result of reading the runs' tables, whatever their bytes, except
     // for `OutOfMemory`.
-    ensures returned { spec.AreRunsInOrder runs.now → spec.Gives (spec.option_and_then
-        (spec.placed_in_runs (spec.each_run runs.now))) result.0 (spec.runs_result key.now seqno
-        None (spec.each_run runs.now)) }
+    ensures returned { spec.AreRunsInOrder runs.now → spec.Gives
+        (spec.entry_stored (spec.each_run runs.now)) result.0
+        (spec.runs_result key.now seqno None (spec.each_run runs.now)) }
     // For tables of lists, it is the first match in the sorted entries of all lists, global seqnos
     // applied.
-    ensures list { spec.OnLists runs.now (λ lists. spec.Gives (spec.option_and_then
-        (spec.placed_in_runs (spec.each_run runs.now))) result.0 (Ok (spec.point (spec.union_in
-        lists) key.now seqno))) }
+    ensures list { spec.OnLists runs.now (λ lists.
+        spec.Gives (spec.entry_stored (spec.each_run runs.now)) result.0
+        (Ok (spec.point (spec.union_in lists) key.now seqno))) }
     // The blocks loaded are those of reading the runs' tables, up to the first error.
     ensures opened { spec.AreRunsInOrder runs.now →
         let read = spec.runs_read key.now seqno None (spec.each_run runs.now) in
@@ -241,14 +237,14 @@ pub fn place_in_runs<A: Allocator + Clone>(
 ) -> Result<Option<RunPlace>, Error>
     // For runs in order, it is the result of reading the runs' tables, whatever their bytes, except
     // for `OutOfMemory`.
-    ensures returned { spec.AreRunsInOrder runs.now → spec.Gives (spec.option_and_then
-        (spec.placed_in_runs (spec.each_run runs.now))) result (spec.runs_result key.now seqno None
-        (spec.each_run runs.now)) }
+    ensures returned { spec.AreRunsInOrder runs.now →
+        spec.Gives (spec.entry_stored (spec.each_run runs.now)) result
+        (spec.runs_result key.now seqno None (spec.each_run runs.now)) }
     // For tables of lists, it is the first match in the sorted entries of all lists, global seqnos
     // applied.
-    ensures list { spec.OnLists runs.now (λ lists. spec.Gives (spec.option_and_then
-        (spec.placed_in_runs (spec.each_run runs.now))) result (Ok (spec.point (spec.union_in lists)
-        key.now seqno))) }
+    ensures list { spec.OnLists runs.now (λ lists.
+        spec.Gives (spec.entry_stored (spec.each_run runs.now)) result
+        (Ok (spec.point (spec.union_in lists) key.now seqno))) }
     // An error of the first block loaded that is found before any allocation takes precedence over
     // `OutOfMemory`.
     ensures early { spec.AreRunsInOrder runs.now →
@@ -360,14 +356,14 @@ pub fn place_in_runs_by_age_counted<A: Allocator + Clone>(
 ) -> (Result<Option<RunPlace>, Error>, Opened)
     // For runs in order, it is the result of reading the tables that are not skipped, whatever
     // their bytes, except for `OutOfMemory`.
-    ensures returned { spec.AreRunsInOrder runs.now → spec.Gives (spec.option_and_then
-        (spec.placed_in_runs (spec.each_run runs.now))) result.0 (spec.runs_read_by_age key.now
-        seqno None (spec.each_run runs.now)).returned }
+    ensures returned { spec.AreRunsInOrder runs.now → spec.Gives
+        (spec.entry_stored (spec.each_run runs.now)) result.0
+        (spec.runs_read_by_age key.now seqno None (spec.each_run runs.now)).returned }
     // For tables of lists, it is the first match in the sorted entries of all lists, global seqnos
     // applied.
-    ensures list { spec.OnLists runs.now (λ lists. spec.Gives (spec.option_and_then
-        (spec.placed_in_runs (spec.each_run runs.now))) result.0 (Ok (spec.point (spec.union_in
-        lists) key.now seqno))) }
+    ensures list { spec.OnLists runs.now (λ lists.
+        spec.Gives (spec.entry_stored (spec.each_run runs.now)) result.0
+        (Ok (spec.point (spec.union_in lists) key.now seqno))) }
     // The blocks loaded are those of reading the tables that are not skipped, up to the first
     // error.
     ensures opened { spec.AreRunsInOrder runs.now →

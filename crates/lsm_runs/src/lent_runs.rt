@@ -1,5 +1,5 @@
 //! Several runs as one lending stream.
-ghost use Rattle.std.specs.Prelude.{◌≡◌, ◌<◌, [], All, IfErr, IfOk, None, map};
+ghost use Rattle.std.specs.Prelude.{◌≡◌, [], All, IfErr, IfOk, None};
 ghost use Rattle.lsm_runs.specs.Words as spec;
 
 use crate::RunReader;
@@ -55,27 +55,17 @@ pub fn lend_runs_at<A: Allocator + Clone>(
     ensures none { IfOk result (λ s. ⟦<LentNewestOfRunsAt<A> as Lending>⟧.lent s ≡ None) }
     // For tables of lists in runs in order, it lends the newest versions below `seqno` of all
     // lists' entries within the bounds. Global seqnos are applied.
-    ensures list { let advances = ⟦<LentNewestOfRunsAt<A> as Lending>⟧.advances in
-        (lists : spec.TableLists) → spec.RunsHold runs.now lists →
-        let found = spec.newest (spec.numbered_below seqno (spec.within range.0 range.1
-        (spec.union_in lists))) in
-        IfOk result (λ s. spec.YieldsList advances spec.nowhere found s) }
+    ensures list { spec.RunsYieldNewestBelow ⟦<LentNewestOfRunsAt<A> as Lending>⟧.advances
+        spec.nowhere seqno range.0 range.1 runs.now result }
     // If every seqno is below `seqno`, it lends the newest versions of all entries within the
     // bounds.
-    ensures whole { let advances = ⟦<LentNewestOfRunsAt<A> as Lending>⟧.advances in
-        (lists : spec.TableLists) → spec.RunsHold runs.now lists →
-        All (λ e. e.seqno < seqno) (spec.union_in lists) →
-        let found = spec.newest (spec.within range.0 range.1 (spec.union_in lists)) in
-        IfOk result (λ s. spec.YieldsList advances spec.nowhere found s) }
+    ensures whole { spec.RunsYieldAllBelow ⟦<LentNewestOfRunsAt<A> as Lending>⟧.advances
+        spec.nowhere seqno range.0 range.1 runs.now result }
     // For any tables in runs in order, whatever their bytes, whose entries within the bounds come
     // in order up to each run's first error. It lends the newest of these results below `seqno`,
     // merged up to the first error, which comes last.
-    ensures places { let advances = ⟦<LentNewestOfRunsAt<A> as Lending>⟧.advances in
-        let returned = spec.runs_results_within range.0 range.1 (spec.each_run runs.now) in
-        spec.AreRunsInOrder runs.now →
-        spec.AllByRecursion (λ rs. spec.Ascends (spec.entries_among rs)) returned →
-        let found = spec.newest_results (spec.merge_of (map (spec.below_results seqno) returned)) in
-        IfOk result (spec.LendsResults advances found) }
+    ensures places { spec.RunsLendNewest ⟦<LentNewestOfRunsAt<A> as Lending>⟧.advances seqno range.0
+        range.1 runs.now result }
     // It may be called any number of times, whatever the tables' bytes.
     ensures can { IfOk result (spec.CanLend ⟦<LentNewestOfRunsAt<A> as Lending>⟧.advances
         ⟦<LentNewestOfRunsAt<A> as Lending>⟧.can_advance) }

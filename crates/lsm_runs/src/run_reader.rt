@@ -52,9 +52,8 @@ impl<A: Allocator + Clone> RunReader<A> {
         ensures is { let tables = spec.arc_value run in IfOk result (λ r. IfSome r (λ reader.
             (ends : ℕ × ℕ) × spec.ArePlacesOf tables ends ×
             spec.IsRunOf tables (spec.span_of ends range.0 range.1) reader)) }
-        ensures yields { IfOk result (λ r. IfSome r (spec.ReaderYieldsLeft
-            ⟦<RunReader<A> as Iterator>⟧.next_gives
-            ⟦<RunReader<A> as DoubleEndedIterator>⟧.next_back_gives (λ _. Unit {0}))) }
+        ensures yields { spec.ReaderYields ⟦<RunReader<A> as Iterator>⟧.next_gives
+            ⟦<RunReader<A> as DoubleEndedIterator>⟧.next_back_gives (λ _. Unit {0}) result }
         // For tables of lists in a run in order, it yields the part of all lists within the bounds,
         // global seqnos applied. Without a reader no entry is within the bounds.
         ensures list { spec.ReaderYieldsList ⟦<RunReader<A> as Iterator>⟧.next_gives
@@ -71,10 +70,9 @@ impl<A: Allocator + Clone> RunReader<A> {
             ⟦<RunReader<A> as DoubleEndedIterator>⟧.next_back_gives (length (spec.arc_value run)))) }
         // Except for `OutOfMemory`, it lends what it yields at the front, up to the first error,
         // also with calls at the back in between.
-        ensures lends { IfOk result (λ r. IfSome r (spec.ReaderYieldsLeft
-            ⟦<RunReader<A> as Lending>⟧.advances
+        ensures lends { spec.ReaderYields ⟦<RunReader<A> as Lending>⟧.advances
             ⟦<RunReader<A> as DoubleEndedIterator>⟧.next_back_gives
-            ⟦<RunReader<A> as Lending>⟧.can_advance)) }
+            ⟦<RunReader<A> as Lending>⟧.can_advance result }
         // For tables of lists in a run in order, it lends exactly the entries within the bounds.
         ensures lends_list { spec.ReaderYieldsList ⟦<RunReader<A> as Lending>⟧.advances
             ⟦<RunReader<A> as DoubleEndedIterator>⟧.next_back_gives (spec.arc_value run) range.0

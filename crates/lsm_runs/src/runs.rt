@@ -1,6 +1,5 @@
 //! Reading several runs as one.
-ghost use Rattle.std.specs.Prelude.{◌≡◌, ◌<◌, ℕ, [], All, IfErr, IfOk, IsOk, List, MatchOption};
-ghost use Rattle.std.specs.Prelude.{None, Ok, Option, Some, length, map};
+ghost use Rattle.std.specs.Prelude.{◌≡◌, ℕ, [], IfErr, IfOk, IsOk, None, Ok, Option, Some, length};
 ghost use Rattle.lsm_runs.specs.Words as spec;
 
 use crate::RunReader;
@@ -29,20 +28,12 @@ fn reader_of<A: Allocator + Clone>(
 ) -> Result<Option<RunReader<A>>, Error>
     // For tables of lists in a run in order, it yields the part within the bounds; without a reader
     // there is none.
-    ensures list { let gives = ⟦<RunReader<A> as Iterator>⟧.next_gives in
-        let back_gives = ⟦<RunReader<A> as DoubleEndedIterator>⟧.next_back_gives in
-        (lists : List (List spec.Entry)) →
-        spec.IsInOrder spec.range_of (spec.arc_value run.now)
-        × spec.HoldLists (spec.arc_value run.now) lists →
-        let found = spec.within range.now.0 range.now.1 (spec.joined lists) in IfOk result (λ r.
-        MatchOption r (found ≡ []) (λ reader. spec.YieldsList gives back_gives found reader)) }
-    ensures lends { let advances = ⟦<RunReader<A> as Lending>⟧.advances in
-        let back_gives = ⟦<RunReader<A> as DoubleEndedIterator>⟧.next_back_gives in
-        (lists : List (List spec.Entry)) →
-        spec.IsInOrder spec.range_of (spec.arc_value run.now)
-        × spec.HoldLists (spec.arc_value run.now) lists →
-        let found = spec.within range.now.0 range.now.1 (spec.joined lists) in IfOk result (λ r.
-        MatchOption r (found ≡ []) (λ reader. spec.YieldsList advances back_gives found reader)) }
+    ensures list { spec.ReaderYieldsList ⟦<RunReader<A> as Iterator>⟧.next_gives
+        ⟦<RunReader<A> as DoubleEndedIterator>⟧.next_back_gives (spec.arc_value run.now)
+        range.now.0 range.now.1 result }
+    ensures lends { spec.ReaderYieldsList ⟦<RunReader<A> as Lending>⟧.advances
+        ⟦<RunReader<A> as DoubleEndedIterator>⟧.next_back_gives (spec.arc_value run.now)
+        range.now.0 range.now.1 result }
     // For any tables in a run in order, it is the reader of the span of those whose ranges reach
     // past both bounds.
     ensures span { spec.IsReaderWithin (spec.arc_value run.now) range.now.0 range.now.1 result }
@@ -60,20 +51,15 @@ fn readers_of<A: Allocator + Clone>(
 ) -> Result<Vec<RunReader<A>, A>, Error>
     // For tables of lists in runs in order, they yield together the part of each run within the
     // bounds.
-    ensures list { let gives = ⟦<RunReader<A> as Iterator>⟧.next_gives in
-        let back_gives = ⟦<RunReader<A> as DoubleEndedIterator>⟧.next_back_gives in
-        (lists : spec.TableLists) → spec.RunsHold runs.now lists →
-        let found = map (λ ls. spec.within range.now.0 range.now.1 (spec.joined ls)) lists in
-        IfOk result (λ v. spec.YieldTogether gives back_gives v.items found) }
-    ensures lends { let advances = ⟦<RunReader<A> as Lending>⟧.advances in
-        let back_gives = ⟦<RunReader<A> as DoubleEndedIterator>⟧.next_back_gives in
-        (lists : spec.TableLists) → spec.RunsHold runs.now lists →
-        let found = map (λ ls. spec.within range.now.0 range.now.1 (spec.joined ls)) lists in
-        IfOk result (λ v. spec.YieldTogether advances back_gives v.items found) }
+    ensures list { spec.ReadersYield ⟦<RunReader<A> as Iterator>⟧.next_gives
+        ⟦<RunReader<A> as DoubleEndedIterator>⟧.next_back_gives range.now.0 range.now.1 runs.now
+        result }
+    ensures lends { spec.ReadersYield ⟦<RunReader<A> as Lending>⟧.advances
+        ⟦<RunReader<A> as DoubleEndedIterator>⟧.next_back_gives range.now.0 range.now.1 runs.now
+        result }
     // For any tables in runs in order, they are the readers of the spans.
-    ensures spans { spec.AreRunsInOrder runs.now → IfOk result (λ v. spec.AllZip
-        (λ reader span. spec.IsRunOf span.0 span.1 reader) v.items
-        (spec.spans_within range.now.0 range.now.1 (spec.each_run runs.now))) }
+    ensures spans { spec.AreRunsInOrder runs.now → IfOk result (λ v.
+        spec.AreReadersWithin range.now.0 range.now.1 (spec.each_run runs.now) v.items) }
     ensures err { IfErr result (λ e. e ≡ spec.OutOfMemory) }
 {
     let mut readers = Vec::with_capacity(alloc, runs.len())?;
@@ -92,19 +78,12 @@ pub(crate) fn readers_within<A: Allocator + Clone>(
     runs: &[Arc<Run<Table<A>, A>, A>],
     range: (Bound<UserKey<A>>, Bound<UserKey<A>>),
 ) -> Result<Vec<RunReader<A>, A>, Error>
-    ensures list { let gives = ⟦<RunReader<A> as Iterator>⟧.next_gives in
-        let back_gives = ⟦<RunReader<A> as DoubleEndedIterator>⟧.next_back_gives in
-        (lists : spec.TableLists) → spec.RunsHold runs.now lists →
-        let found = map (λ ls. spec.within range.0 range.1 (spec.joined ls)) lists in
-        IfOk result (λ v. spec.YieldTogether gives back_gives v.items found) }
-    ensures lends { let advances = ⟦<RunReader<A> as Lending>⟧.advances in
-        let back_gives = ⟦<RunReader<A> as DoubleEndedIterator>⟧.next_back_gives in
-        (lists : spec.TableLists) → spec.RunsHold runs.now lists →
-        let found = map (λ ls. spec.within range.0 range.1 (spec.joined ls)) lists in
-        IfOk result (λ v. spec.YieldTogether advances back_gives v.items found) }
-    ensures spans { spec.AreRunsInOrder runs.now → IfOk result (λ v. spec.AllZip
-        (λ reader span. spec.IsRunOf span.0 span.1 reader) v.items
-        (spec.spans_within range.0 range.1 (spec.each_run runs.now))) }
+    ensures list { spec.ReadersYield ⟦<RunReader<A> as Iterator>⟧.next_gives
+        ⟦<RunReader<A> as DoubleEndedIterator>⟧.next_back_gives range.0 range.1 runs.now result }
+    ensures lends { spec.ReadersYield ⟦<RunReader<A> as Lending>⟧.advances
+        ⟦<RunReader<A> as DoubleEndedIterator>⟧.next_back_gives range.0 range.1 runs.now result }
+    ensures spans { spec.AreRunsInOrder runs.now → IfOk result (λ v.
+        spec.AreReadersWithin range.0 range.1 (spec.each_run runs.now) v.items) }
     ensures err { IfErr result (λ e. e ≡ spec.OutOfMemory) }
 {
     readers_of(alloc, runs, &range)
@@ -152,18 +131,13 @@ pub fn range_runs<A: Allocator + Clone>(
 ) -> Result<MvccStream<Merger<RunReader<A>, A>>, Error>
     // For tables of lists in runs in order, it yields the newest versions of all lists' entries
     // within the bounds, for every list of ends. Global seqnos are applied.
-    ensures list { let gives = ⟦<NewestOfRuns<A> as Iterator>⟧.next_gives in
-        let back_gives = ⟦<NewestOfRuns<A> as DoubleEndedIterator>⟧.next_back_gives in
-        (lists : spec.TableLists) → spec.RunsHold runs.now lists →
-        let found = spec.newest (spec.within range.0 range.1 (spec.union_in lists)) in
-        IfOk result (λ s. spec.YieldsList gives back_gives found s) }
+    ensures list { spec.RunsYieldNewest ⟦<NewestOfRuns<A> as Iterator>⟧.next_gives
+        ⟦<NewestOfRuns<A> as DoubleEndedIterator>⟧.next_back_gives range.0 range.1 runs.now result }
     // For any tables in runs in order, it is a stream over the readers of the spans within the
     // bounds. An error of a reader, `OutOfMemory` too, takes the place of all entries that no step
     // has taken yet. After it, only an entry already read at the other end is yielded.
-    ensures steps { let gives = ⟦<NewestOfRuns<A> as Iterator>⟧.next_gives in
-        let back_gives = ⟦<NewestOfRuns<A> as DoubleEndedIterator>⟧.next_back_gives in
-        spec.AreRunsInOrder runs.now →
-        IfOk result (spec.IsOverSpans gives back_gives range.0 range.1 (spec.each_run runs.now)) }
+    ensures steps { spec.StepsOverSpans ⟦<NewestOfRuns<A> as Iterator>⟧.next_gives
+        ⟦<NewestOfRuns<A> as DoubleEndedIterator>⟧.next_back_gives range.0 range.1 runs.now result }
     // Both ends may be called any number of times, whatever the tables' bytes.
     ensures can { IfOk result (λ s.
         spec.CanYield ⟦<NewestOfRuns<A> as Iterator>⟧.next_gives
@@ -211,18 +185,13 @@ pub fn range_runs_at<A: Allocator + Clone>(
     // For tables of lists in runs in order, it yields the newest versions below `seqno` of all
     // lists' entries within the bounds. This holds for every list of ends. Global seqnos are
     // applied.
-    ensures list { let gives = ⟦<NewestOfRunsAt<A> as Iterator>⟧.next_gives in
-        let back_gives = ⟦<NewestOfRunsAt<A> as DoubleEndedIterator>⟧.next_back_gives in
-        (lists : spec.TableLists) → spec.RunsHold runs.now lists →
-        let found = spec.newest (spec.numbered_below seqno (spec.within range.0 range.1
-        (spec.union_in lists))) in IfOk result (λ s. spec.YieldsList gives back_gives found s) }
+    ensures list { spec.RunsYieldNewestBelow ⟦<NewestOfRunsAt<A> as Iterator>⟧.next_gives
+        ⟦<NewestOfRunsAt<A> as DoubleEndedIterator>⟧.next_back_gives seqno range.0 range.1
+        runs.now result }
     // If every seqno is below `seqno`, it yields what `range_runs` yields.
-    ensures whole { let gives = ⟦<NewestOfRunsAt<A> as Iterator>⟧.next_gives in
-        let back_gives = ⟦<NewestOfRunsAt<A> as DoubleEndedIterator>⟧.next_back_gives in
-        (lists : spec.TableLists) → spec.RunsHold runs.now lists →
-        All (λ e. e.seqno < seqno) (spec.union_in lists) →
-        let found = spec.newest (spec.within range.0 range.1 (spec.union_in lists)) in
-        IfOk result (λ s. spec.YieldsList gives back_gives found s) }
+    ensures whole { spec.RunsYieldAllBelow ⟦<NewestOfRunsAt<A> as Iterator>⟧.next_gives
+        ⟦<NewestOfRunsAt<A> as DoubleEndedIterator>⟧.next_back_gives seqno range.0 range.1
+        runs.now result }
     // For any tables in runs in order, it is a stream over the readers of the spans within the
     // bounds, each below `seqno`. An error of a reader, `OutOfMemory` too, takes the place of all
     // entries that no step has taken yet. After it, only an entry already read at the other end is

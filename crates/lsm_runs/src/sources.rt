@@ -95,12 +95,11 @@ pub fn range_sources_at<S: DoubleEndedIterator<Item = IterItem<A>> + Drop, A: Al
         ⟦<NewestOfSourcesAt<S, A> as Iterator>⟧.can_next
         ⟦<NewestOfSourcesAt<S, A> as DoubleEndedIterator>⟧.can_next_back s) }
     // So a `for` may iterate over it, from the front or from the back.
-    ensures next { All (spec.CanYield S.next_gives S.next_back_gives S.can_next S.can_next_back)
-        sources.items → All (λ s. spec.IsFinite (S.remaining s)) sources.items →
-        IfOk result (λ s. ⟦<NewestOfSourcesAt<S, A> as Iterator>⟧.can_next s) }
-    ensures next_back { All (spec.CanYield S.next_gives S.next_back_gives S.can_next
-        S.can_next_back) sources.items → All (λ s. spec.IsFinite (S.remaining s)) sources.items →
-        IfOk result (λ s. ⟦<NewestOfSourcesAt<S, A> as DoubleEndedIterator>⟧.can_next_back s) }
+    ensures next { spec.IfEachEnds S.next_gives S.next_back_gives S.can_next S.can_next_back
+        S.remaining sources.items (IfOk result ⟦<NewestOfSourcesAt<S, A> as Iterator>⟧.can_next) }
+    ensures next_back { spec.IfEachEnds S.next_gives S.next_back_gives S.can_next S.can_next_back
+        S.remaining sources.items
+        (IfOk result ⟦<NewestOfSourcesAt<S, A> as DoubleEndedIterator>⟧.can_next_back) }
     ensures err { IfErr result (λ e. e ≡ spec.OutOfMemory) }
 {
     let readers = readers_within(alloc.clone()?, runs, range)?;

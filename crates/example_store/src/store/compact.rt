@@ -39,17 +39,16 @@ impl<A: Allocator + Clone> Store<A> {
         // At most one run is left.
         ensures few { OnOk result (length self.new.runs ≤ 1) }
         // The runs have what is kept of all that they had, cut by the target.
-        ensures made { (lists : spec.TableLists) → spec.RunsHoldLists self.old.runs lists →
+        ensures made { spec.OnRunLists self.old.runs (λ lists.
             OnOk result (spec.AreMadeOf self.old
             (spec.kept_in (spec.rules_by (min watermark self.old.next) true false) lists)
-            self.new.runs) }
+            self.new.runs)) }
         ensures err { OnErr result (self.new ≡ self.old) }
         // Except for `OutOfMemory`, the error is that of writing what is kept of the runs as
         // tables.
-        ensures refused { (lists : spec.TableLists) → spec.RunsHoldLists self.old.runs lists →
-            IfErr result (λ e. spec.is_memory e ≡ false
-            → spec.tables_fault self.old.ids self.old.target 0
-            (spec.kept_in (spec.rules_by (min watermark self.old.next) true false) lists) ≡ Some e) }
+        ensures refused { spec.OnRunLists self.old.runs (λ lists.
+            IfErr result (spec.FailsToWrite self.old
+            (spec.kept_in (spec.rules_by (min watermark self.old.next) true false) lists))) }
     {
         let watermark = watermark.min(self.next);
         let rules = Rules {
@@ -108,13 +107,13 @@ pub(crate) fn compacted<A: Allocator + Clone>(
         IfOk result (λ r. spec.HaveAll (spec.kept_in rules lists) (map spec.arc_value r.0.items)) }
     ensures few { IfOk result (λ r. length r.0.items ≤ 1) }
     ensures cut { (lists : spec.TableLists) → spec.RunsHold runs.now lists →
-        IfOk result (λ r. spec.AllByRecursion (spec.AreCutOf (spec.run_label ids target 0) target
-        (spec.kept_in rules lists) 0) (map spec.arc_value r.0.items)) }
+        IfOk result (λ r. spec.AreAllCut ids target (spec.kept_in rules lists)
+        (map spec.arc_value r.0.items)) }
     ensures ids { IfOk result (λ r.
         r.1 ≡ spec.ids_behind ids target (sum_by length (map spec.arc_value r.0.items))) }
     ensures able { IfOk result (λ r. spec.AreCompactable (map spec.arc_value r.0.items)) }
-    ensures own { (bound : ℕ) → spec.AllByRecursion (spec.IsOwnRun bound) (spec.each_run runs.now) →
-        IfOk result (λ r. spec.AllByRecursion (spec.IsOwnRun bound) (map spec.arc_value r.0.items)) }
+    ensures own { (bound : ℕ) → spec.AreOwnRuns bound (spec.each_run runs.now) →
+        IfOk result (λ r. spec.AreOwnRuns bound (map spec.arc_value r.0.items)) }
     ensures refused { (lists : spec.TableLists) → spec.RunsHold runs.now lists →
         IfErr result (λ e. spec.is_memory e ≡ false → spec.tables_fault ids target 0
         (spec.kept_in rules lists) ≡ Some e) }
@@ -169,9 +168,8 @@ fn packed<A: Allocator + Clone>(
     ensures able { spec.AreCompactable (spec.each_run runs.now) →
         IfOk result (λ packed. spec.AreCompactable (map spec.arc_value packed.items)) }
     ensures own { (bound : ℕ) → spec.AreInOrder spec.range_of (spec.each_run runs.now) →
-        spec.AllByRecursion (spec.IsOwnRun bound) (spec.each_run runs.now) →
-        IfOk result (λ packed. spec.AllByRecursion (spec.IsOwnRun bound)
-        (map spec.arc_value packed.items)) }
+        spec.AreOwnRuns bound (spec.each_run runs.now) →
+        IfOk result (λ r. spec.AreOwnRuns bound (spec.each_run r.items)) }
     ensures least { IfOk result (λ packed. spec.AreInOrder spec.range_of (spec.each_run runs.now) →
         spec.IsLeastSize spec.range_of (spec.each_run runs.now)
         (length (map spec.arc_value packed.items))) }

@@ -37,18 +37,15 @@ impl<A: Allocator + Clone> Store<A> {
         ensures recent { self.new.recent ≡ self.old.recent }
         // The part has what is kept of all that it had, the other runs are unchanged, and the
         // counter of ids is after the new tables.
-        ensures made { (lists : spec.TableLists) →
-            spec.RunsHoldLists (spec.part_runs from to self.old.runs) lists →
+        ensures made { spec.OnRunLists (spec.part_runs from to self.old.runs) (λ lists.
             OnOk result (spec.IsPartKept from to (min watermark self.old.next) lists self.old
-            self.new) }
+            self.new)) }
         ensures err { OnErr result (self.new ≡ self.old) }
         // Except for `OutOfMemory`, the error is that of writing what is kept of the part as
         // tables.
-        ensures refused { (lists : spec.TableLists) →
-            spec.RunsHoldLists (spec.part_runs from to self.old.runs) lists →
-            IfErr result (λ e. spec.is_memory e ≡ false
-            → spec.tables_fault self.old.ids self.old.target 0
-            (spec.kept_in (spec.rules_by (min watermark self.old.next) false false) lists) ≡ Some e) }
+        ensures refused { spec.OnRunLists (spec.part_runs from to self.old.runs) (λ ls.
+            IfErr result (spec.FailsToWrite self.old
+            (spec.kept_in (spec.rules_by (min watermark self.old.next) false false) ls))) }
     {
         let watermark = watermark.min(self.next);
         let (front, part, behind) = cut_out(&self.runs, from, to);

@@ -1,19 +1,26 @@
 -- The result of a compaction of any tables.
 use Rattle.std.specs.Prelude.{◌≡◌, ◌⊎◌, ℕ, Bool, true, false, List, [], ◌∷◌, ◌++◌, filter, map}
-use Rattle.std.specs.Prelude.{Option, None, Some, Result, Ok, Err}
-use Rattle.std.specs.List.{Any}
+use Rattle.std.specs.Prelude.{IfOk, Option, None, Some, Result, Ok, Err}
+use Rattle.std.specs.List.{AllZip, Any}
 use Rattle.std.specs.Option.{option_or}
+use Rattle.std.specs.declared.sync.Arc.{Arc}
 use Rattle.sst_entries.specs.Entry.{Entry}
 use Rattle.sst_entries.specs.Error.{is_memory}
 use Rattle.sst_entries.specs.Stream.{YieldsExactly, answer_stops, first, nowhere, ok_results}
 use Rattle.sst_entries.specs.declared.error.Error.{Error}
 use Rattle.sst_entries.specs.declared.error.Error.TheVariants.{OutOfMemory}
+use Rattle.lsm_sorted.specs.declared.compaction.Rules.{Rules}
+use Rattle.lsm_sorted.specs.lending.LentCompaction.{lent_outs}
 use Rattle.lsm_sorted.specs.merge.Ends.{R}
+use Rattle.lsm_sorted.specs.merge.InPlace.{merge_of}
+use Rattle.lsm_writers.specs.declared.table_stream.TableStream.{TableStream}
 use Rattle.lsm_writers.specs.declared.writer.FinishedTable.{FinishedTable}
-use Rattle.lsm_writers.specs.Streamed.{took_each}
+use Rattle.lsm_writers.specs.Streamed.{IsAfter, took_each}
 use Rattle.lsm_writers.specs.Tables.{TablesWriting, all_written, took, took_fault}
 use Rattle.lsm_writers.specs.Writing.{IsWritable, may_be_written}
 use Rattle.lsm_readers.specs.point.Table.{OpenTable}
+use Rattle.lsm_runs.specs.LentNewestRuns.{EachAscends}
+use Rattle.lsm_runs.specs.RunLists.{each_run}
 use Rattle.lsm_runs.specs.RunScan.{scan_fault, tables_scan}
 use Rattle.lsm_runs.specs.compaction.Chain.{writes_fault}
 use Rattle.lsm_runs.specs.compaction.Compacted.{AreWrittenBy}
@@ -126,16 +133,42 @@ CameOf w rs (Ok OutOfOrder) = LeavesOrder w rs
 CameOf w rs (Ok Stopped) = ⊥
 CameOf w rs (Err e) = is_memory e ≡ false → RefusesOf w rs e
 
+-- this holds whichever errors stop a source, `OutOfMemory` among them
+abbrev pub UpToMemory : ((Error → Bool) → Type 0) → Type 0
+UpToMemory P = (stops : Error → Bool) → stops OutOfMemory ≡ true → P stops
+
 -- up to `OutOfMemory`, a source yields exactly these results
 abbrev pub YieldsResults : {S : Type 0} → (S → Option R → S → Type 0) → List R → S → Type 0
 YieldsResults next rs s = (stops : Error → Bool) → stops OutOfMemory ≡ true →
     YieldsExactly (answer_stops stops) next nowhere s rs
+
+-- this holds of the merge of any results that sources yield, if those of each come in order
+abbrev pub OnYieldedResults : {S : Type 0} → (S → Option R → S → Type 0) → List S
+    → (List R → Type 0) → Type 0
+OnYieldedResults next sources P =
+    (lists : List (List R)) → AllZip (λ s rs. YieldsResults next rs s) sources lists →
+    EachAscends lists → P (merge_of lists)
+
+-- up to `OutOfMemory`, a call returned a stream before the first table of these results
+abbrev pub StartsTables : {S A : Type 0} → (S → Option R → S → Type 0) → TablesWriting → List R
+    → Result (TableStream S A) Error → Type 0
+StartsTables next w rs r = UpToMemory (λ stops. IfOk r (IsAfter stops next w rs []))
 
 -- ---- tables of any bytes
 
 -- the results of the scans of the runs that have a table, each up to its first error
 abbrev pub scans_of : List (List OpenTable) → List (List R)
 scans_of runs = map tables_scan (filter has_table runs)
+
+-- this holds of the merge of the scans, if each comes in order
+abbrev pub OnMergedScans : {Z : Type 0} → List (Arc (List OpenTable) Z) → (List R → Type 0) → Type 0
+OnMergedScans runs P =
+    let scans = scans_of (each_run runs) in EachAscends scans → P (merge_of scans)
+
+-- this holds of what is kept of that merge
+abbrev pub OnKeptScans : {Z : Type 0} → List (Arc (List OpenTable) Z) → Rules → (List R → Type 0)
+    → Type 0
+OnKeptScans runs rules P = OnMergedScans runs (λ rs. P (lent_outs rules rs))
 
 -- the error of loading the first data block of a run
 abbrev pub first_block_fault : List OpenTable → Option Error

@@ -6,6 +6,7 @@ use Rattle.std.specs.Option.{option_or}
 use Rattle.sst_entries.specs.declared.error.Error.{Error}
 use Rattle.sst_entries.specs.Entry.{Entry}
 use Rattle.sst_blocks.specs.declared.table.label.Label.{Label}
+use Rattle.sst_blocks.specs.declared.table.options.Options.{Options}
 use Rattle.sst_blocks.specs.table.Chunks.{joined}
 use Rattle.sst_blocks.specs.table.Options.{default_options, label_of}
 use Rattle.lsm_sorted.specs.version.Run.{IsInOrder}
@@ -67,6 +68,20 @@ pub record AreWritten {A : Type 0} (ids : Option ℕ) (target : ℕ) (moment : �
   pub order : AreInKeyOrder lists
   pub finished : AreFinished default_options (run_label ids target moment) lists fs
   pub left_is : left ≡ ids_behind ids target (length lists)
+
+-- this holds of any list of which these are the finished tables, and of how they were written
+abbrev pub OnWritten : {A : Type 0} → List (FinishedTable A)
+    → (Option ℕ → ℕ → ℕ → List Entry → Option ℕ → Type 0) → Type 0
+OnWritten fs P =
+    (ids : Option ℕ) (target moment : ℕ) (es : List Entry) (left : Option ℕ) →
+    AreWritten ids target moment es fs left → P ids target moment es left
+
+-- this holds of any lists of which these are the finished tables, and of the first table's info
+abbrev pub OnFinished : {A : Type 0} → Options → List (FinishedTable A)
+    → (Label → List (List Entry) → Type 0) → Type 0
+OnFinished options fs P =
+    (label : Label) (lists : List (List Entry)) → AreFinished options label lists fs →
+    P label lists
 
 -- a list whose tables fit, with enough ids left
 pub record FitsAsTables (ids : Option ℕ) (target : ℕ) (es : List Entry) : Type 0 where

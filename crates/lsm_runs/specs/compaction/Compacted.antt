@@ -17,7 +17,8 @@ use Rattle.lsm_writers.specs.Tables.{AreFinished, AreInKeyOrder, AreTables, IsFr
 use Rattle.lsm_writers.specs.Tables.{TablesWriting, drawn, first_id, next_id}
 use Rattle.lsm_writers.specs.Writing.{IsWritable}
 use Rattle.lsm_readers.specs.point.Table.{OpenTable}
-use Rattle.lsm_runs.specs.RunLists.{RunsHold, RunsHoldLists, TableLists, YieldsList}
+use Rattle.lsm_runs.specs.RunLists.{HoldLists, OnLists, RunsHold, RunsHoldLists, TableLists}
+use Rattle.lsm_runs.specs.RunLists.{YieldsList, each_run}
 use Rattle.lsm_runs.specs.SeveralRuns.{union_in}
 
 -- ---- what is compacted
@@ -31,6 +32,11 @@ abbrev pub OnFullLists : {Z : Type 0} → List (Arc (List OpenTable) Z) → (Tab
     → Type 0
 OnFullLists runs P =
     (lists : TableLists) → RunsHold runs lists → AllByRecursion HaveEntries lists → P lists
+
+-- this holds of any lists with entries that the tables of a run hold
+abbrev pub OnFullTables : List OpenTable → (List (List Entry) → Type 0) → Type 0
+OnFullTables tables P =
+    (lists : List (List Entry)) → HoldLists tables lists → HaveEntries lists → P lists
 
 -- runs in order of tables of lists that have entries
 pub record AreMergeable (runs : List (List OpenTable)) : Type 0 where
@@ -50,6 +56,16 @@ pub record AreCompactable (runs : List (List OpenTable)) : Type 0 where
 abbrev pub merged_as : {runs : List (List OpenTable)} → AreCompactable runs → AreMergeable runs
 merged_as able = record { lists = able.lists; hold = able.hold; some = able.some }
 
+-- this holds of the lists of runs that may be merged
+abbrev pub OnMergeable : {Z : Type 0} → List (Arc (List OpenTable) Z) → (TableLists → Type 0)
+    → Type 0
+OnMergeable runs P = (able : AreMergeable (each_run runs)) → P able.lists
+
+-- this holds of any lists that compactable runs hold
+abbrev pub OnCompactable : {Z : Type 0} → List (Arc (List OpenTable) Z) → (TableLists → Type 0)
+    → Type 0
+OnCompactable runs P = AreCompactable (each_run runs) → OnLists runs P
+
 -- the rules of a compaction
 abbrev pub rules_by : ℕ → Bool → Bool → Rules
 rules_by watermark evict zeroing =
@@ -58,6 +74,11 @@ rules_by watermark evict zeroing =
 -- the entries that a compaction without a filter keeps of several runs' lists
 abbrev pub kept_in : Rules → List (List (List Entry)) → List Entry
 kept_in rules lists = kept rules (unfiltered (union_in lists))
+
+-- this holds of the entries that are kept of any lists that the runs hold
+abbrev pub OnKept : {Z : Type 0} → List (Arc (List OpenTable) Z) → Rules → (List Entry → Type 0)
+    → Type 0
+OnKept runs rules P = OnLists runs (λ lists. P (kept_in rules lists))
 
 -- a source that yields a list that can be written
 pub record YieldsWritable {S : Type 0} (next : S → Option (Result Entry Error) → S → Type 0)

@@ -1,6 +1,6 @@
 -- The result of a compaction with a filter and a callback.
 use Rattle.std.specs.Prelude.{◌≡◌, ◌⊎◌, Bool, false, List, [], ◌∷◌, ◌++◌, Option, Some, None}
-use Rattle.std.specs.Prelude.{Result, Ok, Err, ℕ}
+use Rattle.std.specs.Prelude.{IfOk, MatchResult, Result, Ok, Err, ℕ}
 use Rattle.std.specs.Iterator.{Yields}
 use Rattle.std.specs.List.{AllByRecursion}
 use Rattle.sst_entries.specs.Entry.{Entry}
@@ -14,12 +14,14 @@ use Rattle.lsm_sorted.specs.declared.compaction.Rules.{Rules}
 use Rattle.lsm_sorted.specs.Compaction.{Judged, Verdict, entries, kept}
 use Rattle.lsm_sorted.specs.Compacting.{Compacted}
 use Rattle.lsm_sorted.specs.lending.LentCompaction.{CompactedLent, CompactedPart, lent_outs}
-use Rattle.lsm_sorted.specs.lending.LentCompaction.{past_hidden}
+use Rattle.lsm_sorted.specs.lending.LentCompaction.{lent_callback, lent_filter, past_hidden}
+use Rattle.lsm_sorted.specs.declared.compaction.lending.LendingCompaction.{LendingCompaction}
 use Rattle.lsm_writers.specs.declared.writer.FinishedTable.{FinishedTable}
 use Rattle.lsm_writers.specs.Streamed.{took_each}
 use Rattle.lsm_writers.specs.Tables.{TablesWriting}
 use Rattle.lsm_writers.specs.Writing.{may_be_written}
-use Rattle.lsm_runs.specs.compaction.AnyRuns.{AreTaken, MayCome, results_fault}
+use Rattle.lsm_readers.specs.point.Table.{OpenTable}
+use Rattle.lsm_runs.specs.compaction.AnyRuns.{AreTaken, BeginsWith, MayCome, results_fault}
 use Rattle.lsm_runs.specs.compaction.Chain.{writes_fault}
 use Rattle.lsm_runs.specs.compaction.Compacted.{AreWrittenBy, FitsBy}
 use Rattle.lsm_runs.specs.compaction.Observed.{NotifiedOfPart, WasNotifiedAt, WasNotifiedOf}
@@ -121,6 +123,12 @@ module _ {F C : Type 0} (gives : F → Entry → Result Verdict Error → F → 
         → AllByRecursion (λ r. result_stops is_memory r ≡ false) gave → Yields next s gave t
         → CompactedPart gives gets rules f c xs gave (filter_in t) (callback_in t)
 
+  -- a call returned a lending compaction of these results
+  abbrev pub CompactsAll : {S A : Type 0} → List R
+      → (LendingCompaction S F C A → Option R → LendingCompaction S F C A → Type 0)
+      → Result (LendingCompaction S F C A) Error → Type 0
+  CompactsAll xs next r = IfOk r (λ s. CompactsAs xs next s lent_filter lent_callback)
+
   module _ (es : List Entry) (w : TablesWriting) where
     -- at each point of the list, the entries kept so far and those that the rules keep of the rest
     -- without a filter fit as tables
@@ -200,3 +208,10 @@ module _ {F C : Type 0} (gives : F → Entry → Result Verdict Error → F → 
         pub given : KeepsSome (ok_results kept) callback
         pub fails : is_memory e ≡ false → KeepsFault kept e
         pub returned : NotifiedOfPart says w kept o q
+
+      -- the result of a compaction of these results: such an outcome; or an error, with which it
+      -- failed so, or with which the scan of one of these runs begins
+      abbrev pub CameFrom : {A : Type 0} → List (List OpenTable)
+          → Result (CompactionOutcome A × C) Error → O → Type 0
+      CameFrom runs r q = MatchResult r (λ x. CameUpTo x.0 x.1 q)
+          (λ e. CameUntil e q ⊎ BeginsWith runs e)

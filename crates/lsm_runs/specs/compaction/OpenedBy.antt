@@ -1,16 +1,26 @@
 -- Finished tables that are opened with given options; the finished tables are not changed.
-use Rattle.std.specs.Prelude.{◌≡◌, ◌≢◌, ℕ, true, List, [], Option, None, Some, Ok, MatchOption}
+use Rattle.std.specs.Prelude.{◌≡◌, ◌≢◌, ◌⊎◌, ◌+◌, ◌^◌, ◌<◌, ℕ, true, false, List, [], Option, None}
+use Rattle.std.specs.Prelude.{Some, MatchOption, Result, Ok}
 use Rattle.std.specs.List.{AllZip}
 use Rattle.std.specs.Option.{option_or}
 use Rattle.sst_entries.specs.declared.error.Error.{Error}
 use Rattle.sst_entries.specs.Entry.{Entry}
+use Rattle.sst_entries.specs.Error.{is_memory}
 use Rattle.sst_entries.specs.Stream.{ok_results}
+use Rattle.sst_blocks.specs.declared.table.label.Label.{Label}
+use Rattle.sst_blocks.specs.declared.table.options.Options.{Options}
+use Rattle.sst_blocks.specs.table.Facts.{highest_seqno}
+use Rattle.sst_blocks.specs.table.Table.{IsTable}
 use Rattle.lsm_sorted.specs.merge.Ends.{R}
 use Rattle.lsm_writers.specs.declared.writer.FinishedTable.{FinishedTable}
 use Rattle.lsm_writers.specs.Tables.{TablesWriting}
-use Rattle.lsm_readers.specs.point.Parts.{recovered_result}
+use Rattle.lsm_writers.specs.Writing.{IsTableWith}
+use Rattle.lsm_readers.specs.OfList.{list_result}
+use Rattle.lsm_readers.specs.point.Parts.{Parts, recovered_result}
 use Rattle.lsm_readers.specs.point.Table.{IsOpen, OpenTable}
+use Rattle.lsm_runs.specs.compaction.AnyRuns.{BeginsWith, RefusesOf}
 use Rattle.lsm_runs.specs.compaction.Chain.{writes_fault}
+use Rattle.lsm_runs.specs.compaction.Compacted.{FitsBy}
 use Rattle.lsm_runs.specs.compaction.Written.{opens_fault}
 use Rattle.lsm_runs.specs.declared.compaction.any_runs.CompactionOutcome.{CompactionOutcome}
 use Rattle.lsm_runs.specs.declared.compaction.any_runs.CompactionOutcome.TheVariants.{OutOfOrder}
@@ -22,6 +32,17 @@ use Rattle.lsm_runs.specs.declared.compaction.open_options.OpenOptions.{OpenOpti
 abbrev pub default_opening : OpenOptions
 default_opening =
     record { global_seqno = 0; tree_id = 0; pin_filter = true; pin_index = true }
+
+-- the result of opening the table of a list with these options
+abbrev pub list_opened : {bytes : List ℕ} {es : List Entry} → IsTable bytes es → OpenOptions
+    → Result Parts Error
+list_opened t how = list_result t how.global_seqno how.pin_filter how.pin_index
+
+-- this holds of any list of which this is the finished table, and of its options
+abbrev pub OnTable : {A : Type 0} → FinishedTable A → (Options → List Entry → Type 0) → Type 0
+OnTable f P =
+    (label : Label) (options : Options) (es : List Entry) →
+    IsTableWith label options es f.id f.checksum.0 f.bytes → P options es
 
 -- a finished table that was opened with these options
 pub record IsOpenedBy {A : Type 0} (how : OpenOptions) (f : FinishedTable A) (t : OpenTable)
@@ -55,9 +76,21 @@ HasRunBy how Stopped r = r ≡ None
 abbrev pub run_with_fault : TablesWriting → List Entry → ℕ → Option Error
 run_with_fault w es g = option_or (writes_fault w es) (opens_fault w.present.options es g)
 
+-- this holds if the tables of a list fit and can be opened
+abbrev pub IfOpens : TablesWriting → List Entry → ℕ → Type 0 → Type 0
+IfOpens w es g P =
+    w.present.options.index_block_restart_interval ≡ 1 → FitsBy w es →
+    highest_seqno es + g < 2 ^ 64 → P
+
 -- the results are those of a list whose tables are written, and opening these fails with this error
 pub record FailsToOpen (w : TablesWriting) (rs : List R) (g : ℕ) (e : Error) : Type 0 where
   pub list : List Entry
   pub whole : rs ≡ ok_results list
   pub none : writes_fault w list ≡ None
   pub fault : opens_fault w.present.options list g ≡ Some e
+
+-- except for `OutOfMemory`, this is an error of writing the results, or of opening their tables, or
+-- that of the first run whose first data block cannot be loaded
+abbrev pub RefusesRun : TablesWriting → List R → ℕ → List (List OpenTable) → Error → Type 0
+RefusesRun w rs g runs e =
+    is_memory e ≡ false → RefusesOf w rs e ⊎ (BeginsWith runs e ⊎ FailsToOpen w rs g e)

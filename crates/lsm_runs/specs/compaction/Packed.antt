@@ -1,8 +1,9 @@
 -- The entries that the tables of runs hold together, in these and in other runs.
-use Rattle.std.specs.Prelude.{◌≡◌, Bool, true, false, List, [], ◌∷◌}
+use Rattle.std.specs.Prelude.{◌≡◌, ◌<◌, Bool, true, false, List, [], ◌∷◌, filter, length}
 use Rattle.sst_entries.specs.Entry.{Entry}
 use Rattle.sst_entries.specs.Strict.{IsStrict}
-use Rattle.lsm_sorted.specs.version.Packing.{AreInOrder, SameHolders, SameTables}
+use Rattle.lsm_sorted.specs.version.Packing.{AreInOrder, ArePlaced, SameHolders, SameTables}
+use Rattle.lsm_sorted.specs.version.Packing.{tables_in}
 use Rattle.lsm_readers.specs.point.Table.{OpenTable}
 use Rattle.lsm_runs.specs.RunLists.{RunsHoldLists}
 use Rattle.lsm_run_parts.specs.RunParts.{range_of}
@@ -39,3 +40,9 @@ KeptLaw =
 abbrev pub has_table : List OpenTable → Bool
 has_table [] = false
 has_table (t ∷ ts) = true
+
+-- runs in order, more than one of which has a table: in the packed runs, each table is in its place
+abbrev pub PlacesTables : List (List OpenTable) → List (List OpenTable) → Type 0
+PlacesTables runs packed =
+    AreInOrder range_of runs → 1 < length (filter has_table runs) →
+    ArePlaced range_of (tables_in runs) packed

@@ -7,14 +7,13 @@ use Rattle.sst_entries.specs.Error.{Faults, is_memory}
 use Rattle.sst_entries.specs.Stream.{ok_results}
 use Rattle.sst_entries.specs.declared.error.Error.{Error}
 use Rattle.sst_entries.specs.declared.error.Error.TheVariants.{OutOfMemory}
-use Rattle.lsm_sorted.specs.merge.Ends.{R}
 use Rattle.lsm_sorted.specs.merge.InPlace.{merge_of}
-use Rattle.lsm_sorted.specs.merge.Union.{Ascends, entries_among}
 use Rattle.lsm_sorted.specs.declared.compaction.Rules.{Rules}
 use Rattle.lsm_sorted.specs.Compaction.{Verdict, keep}
 use Rattle.lsm_sorted.specs.lending.LentCompaction.{lent_outs}
 use Rattle.lsm_writers.specs.Tables.{TablesWriting}
 use Rattle.lsm_readers.specs.point.Table.{OpenTable}
+use Rattle.lsm_runs.specs.LentNewestRuns.{EachAscends}
 use Rattle.lsm_runs.specs.RunLists.{RunsHoldLists}
 use Rattle.lsm_runs.specs.compaction.AnyRuns.{AreTablesBy, BeginsWith, CameInOrder, CameOf}
 use Rattle.lsm_runs.specs.compaction.AnyRuns.{GoesThrough, HasMade, RefusesOf}
@@ -55,7 +54,7 @@ pub record IsUnfiltered {A : Type 0} (runs : List (List OpenTable)) (rules : Rul
       RefusesOf w (ok_results (kept_in rules lists)) e)
   -- if the tables' scans are in order, it writes the entries kept of their merge, up to the first
   -- fault. Or it fails with the error of the first run whose first data block cannot be loaded
-  pub any : AllByRecursion (λ (rs : List R). Ascends (entries_among rs)) (scans_of runs) →
+  pub any : EachAscends (scans_of runs) →
       CameOf w (lent_outs rules (merge_of (scans_of runs))) came
       ⊎ IsErrAnd came (BeginsWith runs)
   -- for any tables, if the first data block of a run cannot be loaded, it fails with the error of the

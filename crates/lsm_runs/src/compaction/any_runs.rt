@@ -1,6 +1,6 @@
 //! Compacting several runs of any tables, with a filter, a callback and an observer.
-ghost use Rattle.std.specs.Prelude.{◌≡◌, ◌≢◌, ◌⊎◌, ◌++◌, ◌∷◌, [], All, false, true, Err, IfErr};
-ghost use Rattle.std.specs.Prelude.{IfOk, IsTrue, List, MatchResult, None, Ok, OnErr, OnOk, map};
+ghost use Rattle.std.specs.Prelude.{◌≡◌, ◌≢◌, ◌++◌, ◌∷◌, [], All, false, true, Err, IfErr, IfOk};
+ghost use Rattle.std.specs.Prelude.{IsTrue, List, None, Ok, OnErr, OnOk};
 ghost use Rattle.lsm_runs.specs.compaction.Words as spec;
 
 use crate::compaction::compact::{Compacted, finished, scanners_of};
@@ -198,18 +198,12 @@ fn compacted_from<
     ensures can { All (spec.CanLend L.advances L.can_advance) sources.items → IfOk result
         (spec.CanLend ⟦<Compacted<L, F, C, A> as Lending>⟧.advances
         ⟦<Compacted<L, F, C, A> as Lending>⟧.can_advance) }
-    ensures list { let next = ⟦<Compacted<L, F, C, A> as Lending>⟧.advances in
-        (lists : spec.TableLists) →
-        spec.YieldTogether L.advances spec.nowhere sources.items (map spec.joined lists) →
-        IfOk result (λ s. spec.CompactsAs F.gives C.gets rules filter callback
-        (spec.ok_results (spec.union_in lists)) next s spec.lent_filter spec.lent_callback) }
+    ensures list { spec.OnYieldedLists L.advances sources.items (λ ls. spec.CompactsAll F.gives
+        C.gets rules filter callback (spec.union_results ls)
+        ⟦<Compacted<L, F, C, A> as Lending>⟧.advances result) }
     // For any results that come in order from each source, it compacts their merge.
-    ensures any { let next = ⟦<Compacted<L, F, C, A> as Lending>⟧.advances in
-        (lists : List (List spec.R)) →
-        spec.AllZip (λ s rs. spec.YieldsResults L.advances rs s) sources.items lists →
-        spec.AllByRecursion (λ rs. spec.Ascends (spec.entries_among rs)) lists →
-        IfOk result (λ s. spec.CompactsAs F.gives C.gets rules filter callback (spec.merge_of lists)
-        next s spec.lent_filter spec.lent_callback) }
+    ensures any { spec.OnYieldedResults L.advances sources.items (λ rs. spec.CompactsAll F.gives
+        C.gets rules filter callback rs ⟦<Compacted<L, F, C, A> as Lending>⟧.advances result) }
     ensures err { IfErr result (λ e. e ≡ spec.OutOfMemory) }
 {
     let own = alloc.clone()?;
@@ -228,18 +222,14 @@ fn compacted_of<F: LentFilter<A> + Drop, C: LentCallback + Drop, A: Allocator + 
     ensures can { IfOk result (spec.CanLend
         ⟦<Compacted<RunScanner<A>, F, C, A> as Lending>⟧.advances
         ⟦<Compacted<RunScanner<A>, F, C, A> as Lending>⟧.can_advance) }
-    ensures list { let next = ⟦<Compacted<RunScanner<A>, F, C, A> as Lending>⟧.advances in
-        (able : spec.AreMergeable (spec.each_run runs.now)) → IfOk result
-        (λ s. spec.CompactsAs F.gives C.gets rules filter callback
-        (spec.ok_results (spec.union_in able.lists)) next s spec.lent_filter spec.lent_callback) }
+    ensures list { spec.OnMergeable runs.now (λ lists. spec.CompactsAll F.gives C.gets rules filter
+        callback (spec.union_results lists)
+        ⟦<Compacted<RunScanner<A>, F, C, A> as Lending>⟧.advances result) }
     ensures err { spec.AreMergeable (spec.each_run runs.now) →
         IfErr result (λ e. e ≡ spec.OutOfMemory) }
     // For any tables whose scans come in order in each run, it compacts their merge.
-    ensures any { let next = ⟦<Compacted<RunScanner<A>, F, C, A> as Lending>⟧.advances in
-        let scans = spec.scans_of (spec.each_run runs.now) in
-        spec.AllByRecursion (λ rs. spec.Ascends (spec.entries_among rs)) scans →
-        IfOk result (λ s. spec.CompactsAs F.gives C.gets rules filter callback (spec.merge_of scans)
-        next s spec.lent_filter spec.lent_callback) }
+    ensures any { spec.OnMergedScans runs.now (λ rs. spec.CompactsAll F.gives C.gets rules filter
+        callback rs ⟦<Compacted<RunScanner<A>, F, C, A> as Lending>⟧.advances result) }
     ensures returned { IfErr result (λ e. spec.is_memory e ≡ false → spec.BeginsWith
         (spec.each_run runs.now) e) }
     // The first data block of each run is loaded.
@@ -292,25 +282,20 @@ pub fn compact_any_runs<
     // For compactable runs, the tables are those of what the filter and the rules keep of all
     // entries, as the writer cuts them. The callback got what is then reported; if it was stopped,
     // what was reported until then.
-    ensures kept { spec.AreCompactable (spec.each_run runs.now) → spec.OnLists runs.now (λ lists.
-        IfOk result (λ r. spec.CameTo F.gives C.gets rules filter callback (spec.union_in lists)
-        writer r.0 r.1)) }
+    ensures kept { spec.OnCompactable runs.now (λ lists. IfOk result (λ r. spec.CameTo F.gives
+        C.gets rules filter callback (spec.union_in lists) writer r.0 r.1)) }
     // For tables of lists that have entries, the outcome is the tables of all that is kept. This
     // holds also if a key has one seqno twice. Or it ends at the first kept entry that may not
     // follow, or as soon as the observer returns so. The callback got what is reported until then,
     // and the observer was called for what was written.
     ensures merged { spec.OnFullLists runs.now (λ lists. IfOk result (λ r. spec.CameUpTo F.gives
-        C.gets rules filter callback (spec.ok_results (spec.union_in lists)) writer O.says
-        observer.old r.0 r.1 observer.new)) }
+        C.gets rules filter callback (spec.union_results lists) writer O.says observer.old r.0 r.1
+        observer.new)) }
     // For any tables whose scans come in order in each run, it is the outcome of their merge, each
     // error in its position. Or it is the error of the first run whose first data block cannot be
     // loaded.
-    ensures any { let scans = spec.scans_of (spec.each_run runs.now) in
-        spec.AllByRecursion (λ rs. spec.Ascends (spec.entries_among rs)) scans →
-        MatchResult result (λ r. spec.CameUpTo F.gives C.gets rules filter callback
-        (spec.merge_of scans) writer O.says observer.old r.0 r.1 observer.new)
-        (λ e. spec.CameUntil F.gives C.gets rules filter callback (spec.merge_of scans) writer
-        O.says observer.old e observer.new ⊎ spec.BeginsWith (spec.each_run runs.now) e) }
+    ensures any { spec.OnMergedScans runs.now (λ rs. spec.CameFrom F.gives C.gets rules filter
+        callback rs writer O.says observer.old (spec.each_run runs.now) result observer.new) }
     // Except for `OutOfMemory`, the error is that of the first run whose first data block cannot be
     // loaded, if there is one. The observer is not called then.
     ensures opens { let first = spec.first_blocks_fault (spec.each_run runs.now) in first ≢ None →
@@ -327,21 +312,21 @@ pub fn compact_any_runs<
     // These are the tables of what was kept until then; after it comes the error, except for
     // `OutOfMemory`.
     ensures until { spec.OnFullLists runs.now (λ lists. IfErr result (λ e. spec.CameUntil F.gives
-        C.gets rules filter callback (spec.ok_results (spec.union_in lists)) writer O.says
-        observer.old e observer.new)) }
+        C.gets rules filter callback (spec.union_results lists) writer O.says observer.old e
+        observer.new)) }
     // Except for `OutOfMemory`, the error is the first one, of the filter or of the writer.
-    ensures refused { spec.OnFullLists runs.now (λ lists. IfErr result (λ e. spec.is_memory e ≡
-        false → spec.RefusesBy F.gives C.gets rules filter callback (spec.ok_results (spec.union_in
-        lists)) writer e)) }
+    ensures refused { spec.OnFullLists runs.now (λ lists. IfErr result (λ e.
+        spec.is_memory e ≡ false → spec.RefusesBy F.gives C.gets rules filter callback
+        (spec.union_results lists) writer e)) }
     // The compaction fails with `OutOfMemory` only, if the filter does and whatever may be kept
     // fits as tables with enough ids left.
-    ensures taken { spec.AreCompactable (spec.each_run runs.now) → spec.OnLists runs.now (λ lists.
-        spec.RefusesForMemory F.gives → spec.FitsKept writer rules (spec.union_in lists) → IfErr
-        result (λ e. e ≡ spec.OutOfMemory)) }
+    ensures taken { spec.OnCompactable runs.now (λ lists. spec.RefusesForMemory F.gives →
+        spec.FitsKept writer rules (spec.union_in lists) →
+        IfErr result (λ e. e ≡ spec.OutOfMemory)) }
     // It is enough that what this filter keeps fits, whatever another filter might keep.
-    ensures fits { spec.AreCompactable (spec.each_run runs.now) → spec.OnLists runs.now (λ lists.
-        spec.RefusesForMemory F.gives → spec.FitsThroughout F.gives C.gets rules filter callback
-        (spec.union_in lists) writer → IfErr result (λ e. e ≡ spec.OutOfMemory)) }
+    ensures fits { spec.OnCompactable runs.now (λ lists. spec.RefusesForMemory F.gives →
+        spec.FitsThroughout F.gives C.gets rules filter callback (spec.union_in lists) writer →
+        IfErr result (λ e. e ≡ spec.OutOfMemory)) }
     // If the filter keeps each entry and the observer never stops it, the result is the tables of
     // what the rules keep, or out of order, or the first error.
     ensures plain { spec.KeepsEach F.gives → spec.NeverStops O.says →

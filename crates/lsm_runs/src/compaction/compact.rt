@@ -18,13 +18,10 @@ use std::sync::Arc;
 fn scanner_of<A: Allocator + Clone>(run: &Arc<Run<Table<A>, A>, A>) -> Result<RunScanner<A>, Error>
     requires { 0 < length (spec.arc_value run.now) }
     // For tables of lists that have entries, it yields these lists, one after another.
-    ensures list { let gives = ⟦<RunScanner<A> as Iterator>⟧.next_gives in
-        (lists : List (List spec.Entry)) → spec.HoldLists (spec.arc_value run.now) lists →
-        spec.HaveEntries lists →
-        IfOk result (spec.YieldsList gives spec.nowhere (spec.joined lists)) }
-    ensures refused { (lists : List (List spec.Entry)) →
-        spec.HoldLists (spec.arc_value run.now) lists →
-        spec.HaveEntries lists → IfErr result (λ e. e ≡ spec.OutOfMemory) }
+    ensures list { spec.OnFullTables (spec.arc_value run.now) (λ lists. IfOk result (spec.YieldsList
+        ⟦<RunScanner<A> as Iterator>⟧.next_gives spec.nowhere (spec.joined lists))) }
+    ensures refused { spec.OnFullTables (spec.arc_value run.now) (λ _.
+        IfErr result (λ e. e ≡ spec.OutOfMemory)) }
     // For any tables, it yields the results of their scans up to the first error, or the call fails
     // with that error.
     ensures any { IfOk result (spec.YieldsResults ⟦<RunScanner<A> as Iterator>⟧.next_gives
@@ -83,16 +80,13 @@ fn kept_from<L: Lending + Drop, A: Allocator + Clone>(
 ) -> Result<Kept<L, A>, Error>
     ensures can { All (spec.CanLend L.advances L.can_advance) sources.items → IfOk result
         (spec.CanLend ⟦<Kept<L, A> as Lending>⟧.advances ⟦<Kept<L, A> as Lending>⟧.can_advance) }
-    ensures list { let advances = ⟦<Kept<L, A> as Lending>⟧.advances in (lists : spec.TableLists) →
-        spec.YieldTogether L.advances spec.nowhere sources.items (map spec.joined lists) →
-        IfOk result (spec.YieldsList advances spec.nowhere (spec.kept_in rules lists)) }
+    ensures list { spec.OnYieldedLists L.advances sources.items (λ lists. IfOk result
+        (spec.YieldsList ⟦<Kept<L, A> as Lending>⟧.advances spec.nowhere
+        (spec.kept_in rules lists))) }
     // For any results that come in order from each source, it yields what is kept of their merge,
     // each error in its position.
-    ensures any { let advances = ⟦<Kept<L, A> as Lending>⟧.advances in
-        (lists : List (List spec.R)) →
-        spec.AllZip (λ s rs. spec.YieldsResults L.advances rs s) sources.items lists →
-        spec.AllByRecursion (λ rs. spec.Ascends (spec.entries_among rs)) lists →
-        IfOk result (spec.YieldsResults advances (spec.lent_outs rules (spec.merge_of lists))) }
+    ensures any { spec.OnYieldedResults L.advances sources.items (λ rs. IfOk result
+        (spec.YieldsResults ⟦<Kept<L, A> as Lending>⟧.advances (spec.lent_outs rules rs))) }
     ensures err { IfErr result (λ e. e ≡ spec.OutOfMemory) }
 {
     let own = alloc.clone()?;
@@ -114,10 +108,8 @@ pub(crate) fn kept_of<A: Allocator + Clone>(
     ensures err { spec.AreMergeable (spec.each_run runs.now) →
         IfErr result (λ e. e ≡ spec.OutOfMemory) }
     // For any tables whose scans come in order in each run, it yields what is kept of their merge.
-    ensures any { let advances = ⟦<Kept<RunScanner<A>, A> as Lending>⟧.advances in
-        let scans = spec.scans_of (spec.each_run runs.now) in
-        spec.AllByRecursion (λ rs. spec.Ascends (spec.entries_among rs)) scans →
-        IfOk result (spec.YieldsResults advances (spec.lent_outs rules (spec.merge_of scans))) }
+    ensures any { spec.OnKeptScans runs.now rules (λ rs. IfOk result
+        (spec.YieldsResults ⟦<Kept<RunScanner<A>, A> as Lending>⟧.advances rs)) }
     // The first data block of each run is loaded.
     ensures opens { spec.Faults result (spec.first_blocks_fault (spec.each_run runs.now)) }
 {
@@ -233,16 +225,15 @@ pub fn compact_runs<A: Allocator + Clone>(
     requires able { spec.AreCompactable (spec.each_run runs.now) }
     // The tables are those of what is kept of all entries, as the writer cuts them.
     ensures tables { let rules = spec.rules_by gc_seqno_threshold evict_tombstones zero_seqnos in
-        spec.OnLists runs.now (λ lists. IfOk result (λ r. spec.AreWrittenBy writer (spec.kept_in
-        rules lists) r.0.items r.1)) }
+        spec.OnKept runs.now rules (λ es.
+        IfOk result (λ r. spec.AreWrittenBy writer es r.0.items r.1)) }
     // The error is the writer's first one: reading fails with `OutOfMemory` only.
     ensures refused { let rules = spec.rules_by gc_seqno_threshold evict_tombstones zero_seqnos in
-        spec.OnLists runs.now (λ lists. spec.Faults result (spec.writes_fault writer (spec.kept_in
-        rules lists))) }
+        spec.OnKept runs.now rules (λ es. spec.Faults result (spec.writes_fault writer es)) }
     // If the tables fit and enough ids remain, the only error is `OutOfMemory`.
     ensures taken { let rules = spec.rules_by gc_seqno_threshold evict_tombstones zero_seqnos in
-        spec.OnLists runs.now (λ lists. spec.FitsBy writer (spec.kept_in rules lists) → IfErr result
-        (λ e. e ≡ spec.OutOfMemory)) }
+        spec.OnKept runs.now rules (λ es.
+        spec.FitsBy writer es → IfErr result (λ e. e ≡ spec.OutOfMemory)) }
 {
     // A list whose tables fit is written whole.
     tables_law();

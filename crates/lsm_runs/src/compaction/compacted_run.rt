@@ -1,6 +1,6 @@
 //! Compacting several runs into one.
-ghost use Rattle.std.specs.Prelude.{◌≡◌, ◌∷◌, ◌+◌, ◌<◌, ◌^◌, ℕ, [], List, Option, IfErr, IfOk};
-ghost use Rattle.std.specs.Prelude.{IfSome, MatchOption, length};
+ghost use Rattle.std.specs.Prelude.{◌≡◌, ◌∷◌, ◌+◌, ◌<◌, ◌^◌, [], IfErr, IfOk, IfSome, MatchOption};
+ghost use Rattle.std.specs.Prelude.{length};
 ghost use Rattle.lsm_runs.specs.compaction.Words as spec;
 
 use crate::compact_runs;
@@ -18,19 +18,15 @@ fn run_of_tables<A: Allocator + Clone>(
     alloc: A,
     tables: Vec<FinishedTable<A>, A>,
 ) -> Result<Option<Run<Table<A>, A>>, Error>
-    ensures run { (ids : Option ℕ) (target moment : ℕ) (es : List spec.Entry) (left : Option ℕ) →
-        spec.AreWritten ids target moment es tables.items left →
-        IfOk result (λ r. MatchOption r (es ≡ []) (λ run. spec.IsRunOfList es 0 run)) }
-    ensures cut { (ids : Option ℕ) (target moment : ℕ) (es : List spec.Entry) (left : Option ℕ) →
-        spec.AreWritten ids target moment es tables.items left →
+    ensures run { spec.OnWritten tables.items (λ _ _ _ es _.
+        IfOk result (λ r. MatchOption r (es ≡ []) (λ run. spec.IsRunOfList es 0 run))) }
+    ensures cut { spec.OnWritten tables.items (λ ids target moment es _.
         IfOk result (λ r. IfSome r (λ run.
-        spec.AreCutOf (spec.run_label ids target moment) target es 0 run)) }
-    ensures ids { (ids : Option ℕ) (target moment : ℕ) (es : List spec.Entry) (left : Option ℕ) →
-        spec.AreWritten ids target moment es tables.items left →
-        IfOk result (λ r. left ≡ spec.ids_behind ids target (spec.option_map_or length r 0)) }
-    ensures taken { (ids : Option ℕ) (target moment : ℕ) (es : List spec.Entry) (left : Option ℕ) →
-        spec.AreWritten ids target moment es tables.items left →
-        spec.highest_seqno es + 0 < 2 ^ 64 → IfErr result (λ e. e ≡ spec.OutOfMemory) }
+        spec.AreCutOf (spec.run_label ids target moment) target es 0 run))) }
+    ensures ids { spec.OnWritten tables.items (λ ids target _ _ left.
+        IfOk result (λ r. left ≡ spec.ids_behind ids target (spec.option_map_or length r 0))) }
+    ensures taken { spec.OnWritten tables.items (λ _ _ _ es _.
+        spec.highest_seqno es + 0 < 2 ^ 64 → IfErr result (λ e. e ≡ spec.OutOfMemory)) }
 {
     let opened = open_tables(alloc, tables, 0)?;
     Ok(Run::new(opened))
@@ -76,9 +72,8 @@ pub fn compact_to_run<A: Allocator + Clone>(
         let left = spec.kept_in rules lists in
         IfOk result (λ r. MatchOption r.0 (left ≡ []) (λ run. spec.IsRunOfList left 0 run)) }
     // The entries that are kept are cut by the target size, and the tables' ids are consecutive.
-    ensures cut { (lists : spec.TableLists) → spec.RunsHold runs.now lists →
-        IfOk result (λ r. IfSome r.0 (λ run. spec.AreCutOf (spec.run_label ids target_size
-        created_at) target_size (spec.kept_in rules lists) 0 run)) }
+    ensures cut { spec.OnKept runs.now rules (λ es. IfOk result (λ r. IfSome r.0 (λ run.
+        spec.AreCutOf (spec.run_label ids target_size created_at) target_size es 0 run))) }
     ensures ids { IfOk result (λ r.
         r.1 ≡ spec.ids_behind ids target_size (spec.option_map_or length r.0 0)) }
     // The run may be compacted again.

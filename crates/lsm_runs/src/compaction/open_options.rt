@@ -75,8 +75,7 @@ impl OpenOptions {
         // seqno fits. Its parts match the list.
         ensures list { (es : List spec.Entry) (t : table.IsTable bytes es) →
             t.options.index_block_restart_interval ≡ 1 →
-            spec.Gives (λ (t : spec.OpenTable). t.parts) result
-            (table.list_result t self.now.global_seqno self.now.pin_filter self.now.pin_index) }
+            spec.Gives (λ (t : spec.OpenTable). t.parts) result (spec.list_opened t self.now) }
         // Bytes that store a list, whoever wrote them, open if the highest seqno fits.
         ensures stores { (es : List spec.Entry) → spec.StoresList bytes es →
             spec.Gives (λ (t : spec.OpenTable). tt) result
@@ -126,12 +125,10 @@ impl OpenOptions {
         // It has the bytes and the checksum, and was opened with these options.
         ensures opened { IfOk result (spec.IsOpenedBy self.now table.now) }
         // A table that was written from a list stores it, so the contracts of reads hold.
-        ensures stored { (label : spec.Label) (options : spec.Options) (es : List spec.Entry) →
-            spec.IsTableWith label options es table.now.id table.now.checksum.0 table.now.bytes →
-            IfOk result (λ t. spec.StoresList t.bytes es) }
-        ensures refused { (label : spec.Label) (options : spec.Options) (es : List spec.Entry) →
-            spec.IsTableWith label options es table.now.id table.now.checksum.0 table.now.bytes →
-            spec.Faults result (spec.opens_fault options es self.now.global_seqno) }
+        ensures stored { spec.OnTable table.now (λ _ es.
+            IfOk result (λ t. spec.StoresList t.bytes es)) }
+        ensures refused { spec.OnTable table.now (λ options es.
+            spec.Faults result (spec.opens_fault options es self.now.global_seqno)) }
     {
         let bytes = table.bytes.clone()?;
         // Its length is that of a slice.
@@ -150,9 +147,8 @@ pub(crate) fn open_all<A: Allocator + Clone>(
     how: &OpenOptions,
 ) -> Result<Vec<Table<A>, A>, Error>
     ensures opened { IfOk result (λ v. spec.AreOpenedBy how.now tables.now v.items) }
-    ensures refused { (options : spec.Options) (label : spec.Label)
-        (lists : List (List spec.Entry)) → spec.AreFinished options label lists tables.now →
-        spec.Faults result (spec.opens_fault options (spec.joined lists) how.now.global_seqno) }
+    ensures refused { (options : spec.Options) → spec.OnFinished options tables.now (λ _ lists.
+        spec.Faults result (spec.opens_fault options (spec.joined lists) how.now.global_seqno)) }
 {
     let how = *how;
     let mut opened = Vec::new(alloc.clone()?);

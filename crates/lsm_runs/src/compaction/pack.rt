@@ -1,5 +1,5 @@
 //! Packing runs of tables, and the entries that packed runs hold.
-ghost use Rattle.std.specs.Prelude.{◌≡◌, ◌<◌, ◌≤◌, IfErr, IfOk, filter, length};
+ghost use Rattle.std.specs.Prelude.{◌≡◌, ◌≤◌, IfErr, IfOk, filter, length};
 ghost use Rattle.lsm_runs.specs.compaction.Words as spec;
 
 use lsm_readers::Table;
@@ -94,9 +94,8 @@ pub fn pack_runs<A: Allocator + Clone>(
         → spec.SameHolders spec.range_of (spec.each_run runs.now) packed.items) }
     // For runs in order, if more than one has a table: a table is one run after the last run with
     // an earlier table that it overlaps. Without such a table it is in the first run.
-    ensures placed { let given = spec.each_run runs.now in IfOk result
-        (λ packed. spec.AreInOrder spec.range_of given → 1 < length (filter spec.has_table given) →
-        spec.ArePlaced spec.range_of (spec.tables_in given) packed.items) }
+    ensures placed { IfOk result (λ packed.
+        spec.PlacesTables (spec.each_run runs.now) packed.items) }
     // For runs in order, each packed run is in order and has a table.
     ensures ordered { IfOk result (λ packed. spec.AreInOrder spec.range_of (spec.each_run runs.now)
         → spec.ArePacked spec.range_of packed.items) }

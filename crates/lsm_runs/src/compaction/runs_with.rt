@@ -1,6 +1,6 @@
 //! A run of the tables of a compaction, opened with options.
-ghost use Rattle.std.specs.Prelude.{◌≡◌, ◌≢◌, ◌⊎◌, ◌∷◌, ◌+◌, ◌^◌, ◌<◌, [], IfErr, IfOk, IfSome};
-ghost use Rattle.std.specs.Prelude.{IsOk, List, MatchOption, MatchResult, None, Ok, false};
+ghost use Rattle.std.specs.Prelude.{◌≡◌, ◌≢◌, ◌∷◌, [], IfErr, IfOk, IfSome, IsOk, List};
+ghost use Rattle.std.specs.Prelude.{MatchOption, MatchResult, None, Ok};
 ghost use Rattle.lsm_runs.specs.compaction.Words as spec;
 
 use crate::compaction::open_options::open_all;
@@ -63,13 +63,9 @@ pub fn compact_to_run_with<A: Allocator + Clone>(
     // For any tables whose scans come in order in each run, it is the outcome of writing what is kept
     // of their merge, or the first fault of that. Or it is the error of the first run whose first
     // data block cannot be loaded, or of opening the new tables.
-    ensures any { let scans = spec.scans_of (spec.each_run runs.now) in
-        spec.AllByRecursion (λ rs. spec.Ascends (spec.entries_among rs)) scans →
-        let left = spec.lent_outs rules (spec.merge_of scans) in
-        MatchResult result (λ r. spec.CameOf writer left (Ok r.0))
-        (λ e. spec.is_memory e ≡ false → spec.RefusesOf writer left e
-        ⊎ (spec.BeginsWith (spec.each_run runs.now) e
-        ⊎ spec.FailsToOpen writer left how.now.global_seqno e)) }
+    ensures any { spec.OnKeptScans runs.now rules (λ rs.
+        MatchResult result (λ r. spec.CameOf writer rs (Ok r.0))
+        (spec.RefusesRun writer rs how.now.global_seqno (spec.each_run runs.now))) }
     // For any tables, except for `OutOfMemory`, the error is that of the first run whose first data
     // block cannot be loaded, if there is one.
     ensures opens { let first = spec.first_blocks_fault (spec.each_run runs.now) in
@@ -79,8 +75,8 @@ pub fn compact_to_run_with<A: Allocator + Clone>(
     // The run has exactly these, opened with the options `how`, in their order.
     ensures opened { IfOk result (λ r. spec.HasRunBy how.now r.0 r.1) }
     // Together they hold what is kept, one after another, and are in order.
-    ensures run { spec.AreCompactable (spec.each_run runs.now) → spec.OnLists runs.now (λ lists. let
-        left = spec.kept_in rules lists in IfOk result (λ r. MatchOption r.1 (left ≡ []) (λ run.
+    ensures run { spec.OnCompactable runs.now (λ lists. let left = spec.kept_in rules lists in
+        IfOk result (λ r. MatchOption r.1 (left ≡ []) (λ run.
         spec.IsRunOfList left how.now.global_seqno run))) }
     // Without a global seqno, the run may be compacted again, whatever the tables held.
     ensures able { how.now.global_seqno ≡ 0 →
@@ -92,10 +88,9 @@ pub fn compact_to_run_with<A: Allocator + Clone>(
         how.now.global_seqno)) }
     // With an interval of 1, the only error is `OutOfMemory` if the tables of what is kept fit,
     // enough ids remain and no seqno is too large.
-    ensures taken { spec.AreCompactable (spec.each_run runs.now) → spec.OnLists runs.now (λ lists.
-        let left = spec.kept_in rules lists in writer.present.options.index_block_restart_interval ≡
-        1 → spec.FitsBy writer left → spec.highest_seqno left + how.now.global_seqno < 2 ^ 64 →
-        IfErr result (λ e. e ≡ spec.OutOfMemory)) }
+    ensures taken { spec.OnCompactable runs.now (λ lists.
+        spec.IfOpens writer (spec.kept_in rules lists) how.now.global_seqno
+        (IfErr result (λ e. e ≡ spec.OutOfMemory))) }
 {
     let own = alloc.clone()?;
     let mut observer = NoObserver;

@@ -1,5 +1,5 @@
 //! Compacting several runs into tables that are yielded one by one.
-ghost use Rattle.std.specs.Prelude.{◌≡◌, [], Bool, IfErr, IfOk, List, true};
+ghost use Rattle.std.specs.Prelude.{◌≡◌, [], IfErr, IfOk, List};
 ghost use Rattle.lsm_runs.specs.compaction.Words as spec;
 
 use crate::RunScanner;
@@ -22,14 +22,12 @@ fn stream_of<L: Lending + Drop, A: Allocator + Clone>(
     writer: MultiWriter<A>,
 ) -> TableStream<Kept<L, A>, A>
     requires { spec.IsFreshRun writer }
-    ensures starts { let advances = ⟦<Kept<L, A> as Lending>⟧.advances in
-        (results : List spec.R) → spec.YieldsResults advances results source →
-        (stops : spec.Error → Bool) → stops spec.OutOfMemory ≡ true →
-        spec.IsAfter stops advances writer results [] result }
-    ensures can { let source_can = ⟦<Kept<L, A> as Lending>⟧.can_advance in
-        let advances = ⟦<Kept<L, A> as Lending>⟧.advances in
-        spec.CanYield advances spec.nowhere source_can source_can source →
-        spec.CanPoll advances source_can result }
+    ensures starts { let next = ⟦<Kept<L, A> as Lending>⟧.advances in
+        (rs : List spec.R) → spec.YieldsResults next rs source →
+        spec.UpToMemory (λ stops. spec.IsAfter stops next writer rs [] result) }
+    ensures can { let can = ⟦<Kept<L, A> as Lending>⟧.can_advance in
+        let next = ⟦<Kept<L, A> as Lending>⟧.advances in
+        spec.CanLend next can source → spec.CanPoll next can result }
     ensures ids { result.ids ≡ writer.ids }
 {
     TableStream::new(source, writer)
@@ -71,18 +69,13 @@ pub fn compact_each<A: Allocator + Clone>(
     requires { spec.IsFreshRun writer }
     // For tables of lists that have entries, it is before the first table of what is kept of all
     // entries.
-    ensures starts { let advances = ⟦<Kept<RunScanner<A>, A> as Lending>⟧.advances in
-        (able : spec.AreMergeable (spec.each_run runs.now)) (stops : spec.Error → Bool) →
-        stops spec.OutOfMemory ≡ true → IfOk result (spec.IsAfter stops advances writer
-        (spec.ok_results (spec.kept_in rules able.lists)) []) }
+    ensures starts { spec.OnMergeable runs.now (λ lists. spec.StartsTables
+        ⟦<Kept<RunScanner<A>, A> as Lending>⟧.advances writer
+        (spec.ok_results (spec.kept_in rules lists)) result) }
     // For any tables whose scans come in order in each run, it is before the first table of what is
     // kept of their merge, each error in its position.
-    ensures any { let advances = ⟦<Kept<RunScanner<A>, A> as Lending>⟧.advances in
-        let scans = spec.scans_of (spec.each_run runs.now) in
-        spec.AllByRecursion (λ rs. spec.Ascends (spec.entries_among rs)) scans →
-        (stops : spec.Error → Bool) → stops spec.OutOfMemory ≡ true →
-        IfOk result (spec.IsAfter stops advances writer
-        (spec.lent_outs rules (spec.merge_of scans)) []) }
+    ensures any { spec.OnKeptScans runs.now rules (λ rs. spec.StartsTables
+        ⟦<Kept<RunScanner<A>, A> as Lending>⟧.advances writer rs result) }
     ensures can { IfOk result ⟦<Compaction<A> as Iterator>⟧.can_next }
     ensures ids { IfOk result (λ s. s.ids ≡ writer.ids) }
     ensures err { spec.AreMergeable (spec.each_run runs.now) →

@@ -94,16 +94,13 @@ pub(crate) fn open_tables<A: Allocator + Clone>(
     tables: Vec<FinishedTable<A>, A>,
     global_seqno: SeqNo,
 ) -> Result<Vec<Table<A>, A>, Error>
-    ensures opened { (label : spec.Label) (lists : List (List spec.Entry)) →
-        spec.AreFinished spec.default_options label lists tables.items →
-        IfOk result (λ v. spec.AreOpened label lists global_seqno v.items) }
-    ensures refused { (label : spec.Label) (lists : List (List spec.Entry)) →
-        spec.AreFinished spec.default_options label lists tables.items →
-        spec.Faults result (spec.number_fault (spec.joined lists) global_seqno) }
-    ensures taken { (label : spec.Label) (lists : List (List spec.Entry)) →
-        spec.AreFinished spec.default_options label lists tables.items →
-        spec.AllByRecursion (λ es. spec.highest_seqno es + global_seqno < 2 ^ 64) lists →
-        IfErr result (λ e. e ≡ spec.OutOfMemory) }
+    ensures opened { spec.OnFinished spec.default_options tables.items (λ label lists.
+        IfOk result (λ v. spec.AreOpened label lists global_seqno v.items)) }
+    ensures refused { spec.OnFinished spec.default_options tables.items (λ _ lists.
+        spec.Faults result (spec.number_fault (spec.joined lists) global_seqno)) }
+    ensures taken { spec.OnFinished spec.default_options tables.items (λ _ ls.
+        spec.AllByRecursion (λ es. spec.highest_seqno es + global_seqno < 2 ^ 64) ls →
+        IfErr result (λ e. e ≡ spec.OutOfMemory)) }
 {
     let mut opened = Vec::new(alloc.clone()?);
     for table in tables {

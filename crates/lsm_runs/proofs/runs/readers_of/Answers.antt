@@ -39,20 +39,20 @@ loop-run-preserved g c =
           rw (w.readers-is, w.in_ok-push.ensures.items) (record {
             list = λ lists held.
                 read_more (RunGives front_of front_tables) (RunGives back_of back_tables) arc_value low high runs i lists held run c.loop-run-test.true c.run-item.is readers (before.list lists held) w.in-Some.reader
-                (λ ls own. rw w.in-Some.is at (c.in_ok-reader.ensures.list ls own));
+                (λ ls own. rw w.in-Some.is at (c.in_ok-reader.ensures.list own.0 ls own.1));
             lends = λ lists held.
                 read_more RunLends (RunGives back_of back_tables) arc_value low high runs i lists held run c.loop-run-test.true c.run-item.is readers (before.lends lists held) w.in-Some.reader
-                (λ ls own. rw w.in-Some.is at (c.in_ok-reader.ensures.lends ls own));
+                (λ ls own. rw w.in-Some.is at (c.in_ok-reader.ensures.lends own.0 ls own.1));
             spans = more_spanned arc_value low high runs i run c.loop-run-test.true c.run-item.is readers before.spans w.in-Some.reader (λ order. rw w.in-Some.is at (c.in_ok-reader.ensures.span order));
           })
       | in_default w ↦
           rw w.readers-is (record {
             list = λ lists held.
                 read_none (RunGives front_of front_tables) (RunGives back_of back_tables) arc_value low high runs i lists held run c.loop-run-test.true c.run-item.is readers (before.list lists held)
-                (λ ls own. rw w.in_default.is at (c.in_ok-reader.ensures.list ls own));
+                (λ ls own. rw w.in_default.is at (c.in_ok-reader.ensures.list own.0 ls own.1));
             lends = λ lists held.
                 read_none RunLends (RunGives back_of back_tables) arc_value low high runs i lists held run c.loop-run-test.true c.run-item.is readers (before.lends lists held)
-                (λ ls own. rw w.in_default.is at (c.in_ok-reader.ensures.lends ls own));
+                (λ ls own. rw w.in_default.is at (c.in_ok-reader.ensures.lends own.0 ls own.1));
             spans = same_spanned arc_value low high runs i run c.loop-run-test.true c.run-item.is readers before.spans (λ order. rw w.in_default.is at (c.in_ok-reader.ensures.span order));
           })
     ]
