@@ -1,0 +1,5 @@
+pub mod Known
+pub mod Parts
+pub mod Loads
+pub mod Headed
+pub mod Gets
