@@ -3,3 +3,5 @@ pub mod Parts
 pub mod Loads
 pub mod Headed
 pub mod Gets
+pub mod Opened
+pub mod FileScans

@@ -41,3 +41,9 @@ FileFaults reads (Err (Table e)) returned = is_memory e ≡ false → returned �
 abbrev pub IsReadError : Reads → ℕ → ℕ → FileError → Type 0
 IsReadError reads len end (Io e) = MayFail reads ⊎ (len < end)
 IsReadError reads len end (Table e) = e ≡ OutOfMemory
+
+-- A result, with a failed read as `OutOfMemory`.
+abbrev pub failure_as_memory : {X : Type 0} → Result X FileError → Result X Error
+failure_as_memory (Ok x) = Ok x
+failure_as_memory (Err (Io e)) = Err OutOfMemory
+failure_as_memory (Err (Table e)) = Err e

@@ -17,13 +17,14 @@ pub use Rattle.lsm_readers.specs.point.Answer.{LoadsFew, lift, table_answer}
 pub use Rattle.lsm_readers.specs.point.Batch.{query_result}
 pub use Rattle.lsm_readers.specs.point.Many.{answers_to, many_results}
 pub use Rattle.lsm_readers.specs.point.Parts.{parts_result, recovered_result}
-pub use Rattle.lsm_readers.specs.point.Table.{OpenTable, parts_of}
+pub use Rattle.lsm_readers.specs.point.Read.{Opens}
+pub use Rattle.lsm_readers.specs.point.Table.{IsRecovered, OpenTable, parts_of}
 pub use Rattle.lsm_readers.specs.Scan.{IsEndedScan, behind, block_result, ended, fault_of}
 pub use Rattle.lsm_readers.specs.Scan.{lend_next, scan_left, scan_results}
 pub use Rattle.lsm_readers.specs.Stored.{StoresList}
 pub use Rattle.lsm_files.specs.Keeping.{IsLoaded, KeepsOf}
 pub use Rattle.lsm_files.specs.Reads.{IsKnown, IsPartAt, NeverFails, whole}
 pub use Rattle.lsm_files.specs.Results.{FileFaults, FileGives, IsFailure, IsFailureOr, IsIo}
-pub use Rattle.lsm_files.specs.Results.{IsReadError}
+pub use Rattle.lsm_files.specs.Results.{IsReadError, failure_as_memory}
 pub use Rattle.lsm_files.specs.Scan.{in_file, next_of, rest_of}
 pub use Rattle.lsm_files.specs.Tail.{IsTailOf, IsTocOf, IsTrailerError, IsPartError}

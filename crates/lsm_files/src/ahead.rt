@@ -94,6 +94,7 @@ impl<'a, R: ReadAt, A: Allocator + Clone> Ahead<'a, R, A> {
         ensures part { let body = spec.body_of self.old in
             spec.IsKnown R.reads → IfOk result (spec.IsPartAt body position) }
         ensures fault { let body = spec.body_of self.old in
+            spec.IsKnown R.reads →
             IfErr result (spec.IsPartError R.reads (length body) (position + len)) }
         ensures bytes { self.new ≡ self.old }
     {

@@ -1,5 +1,6 @@
 //! Scanning a whole table in its file, block by block.
-ghost use Rattle.std.specs.Prelude.{◌≡◌, ◌-◌, ℕ, [], Bool, List, Ok, IfOk, OnErr, OnOk, None, is_some};
+ghost use Rattle.std.specs.Prelude.{◌≡◌, ◌<◌, ◌-◌, ◌↔◌, ℕ, [], Bool, List, Ok, None, is_some};
+ghost use Rattle.std.specs.Prelude.{IfOk, IsTrue, OnErr, OnOk};
 ghost use Rattle.lsm_files.specs.Words as spec;
 
 use crate::ahead::Ahead;
@@ -127,17 +128,15 @@ impl<R: ReadAt, A: Allocator + Clone> FileScanner<'_, R, A> {
         ensures ended { OnErr result (spec.IsEndedScan self.new) }
         ensures none { OnErr result (self.new.lent ≡ None) }
     {
-        let blocks = self.blocks_left;
-        for _ in 0..=blocks {
+        loop {
             if self.next_entry()? {
                 return Ok(true);
             }
-            if self.blocks_left == 0 {
+            if !self.has_block() {
                 return Ok(false);
             }
             self.next_block()?;
         }
-        Ok(false)
     }
 
     /// Returns the current entry, global seqno applied.
@@ -154,6 +153,12 @@ impl<R: ReadAt, A: Allocator + Clone> FileScanner<'_, R, A> {
                 ..entry
             }),
         }
+    }
+
+    fn has_block(&self) -> bool
+        ensures { IsTrue result ↔ (0 < self.now.blocks) }
+    {
+        self.blocks_left > 0
     }
 
     /// Drops the current entry and all that is left.
@@ -184,6 +189,7 @@ impl<R: ReadAt, A: Allocator + Clone> FileScanner<'_, R, A> {
 
     /// Loads the next block. An error ends the scan.
     fn next_block(&mut self) -> Result<(), FileError>
+        requires { 0 < self.old.blocks }
         ensures returned { spec.IsKnown R.reads →
             spec.FileGives R.reads (λ (_ : _). (self.new.entries, self.new.position)) result
             (spec.block_result self.old.body self.old.position) }
@@ -201,7 +207,7 @@ impl<R: ReadAt, A: Allocator + Clone> FileScanner<'_, R, A> {
             Ok((block, position)) => {
                 drop(mem::replace(&mut self.block, block.into_cursor()));
                 self.position = position;
-                self.blocks_left = self.blocks_left.saturating_sub(1);
+                self.blocks_left -= 1;
                 Ok(())
             }
             Err(error) => {

@@ -145,6 +145,10 @@ impl<R: ReadAt + Drop, A: Allocator + Clone> FileTable<R, A> {
         // If no block is loaded, the read does not fail.
         ensures calm { spec.IsKnown R.reads →
             (spec.table_answer self.now key.now seqno).loads ≡ [] → IsOk result.0 }
+        // It makes the loads of that read. If a read of the file fails, it makes a part of them.
+        ensures opened { let loads = (spec.table_answer self.now key.now seqno).loads in
+            spec.IsKnown R.reads →
+            spec.Opens (spec.failure_as_memory result.0) loads spec.none_opened result.1 }
         ensures few { spec.IsKnown R.reads →
             spec.LoadsFew self.now.parts spec.none_opened result.1 }
         // On bytes that store a list it is the newest visible version in the list, global seqno

@@ -1,0 +1,96 @@
+-- A scan of a table in its file: what a step of it comes to.
+use Rattle.std.proofs.Common.{◌≡◌, ℕ, suc, ◌+◌, ◌-◌, ◌<◌, Bool, true, false, List, [], ◌∷◌, refl, sym}
+use Rattle.std.proofs.Common.{ap, subst, ◌∙◌, arith}
+use Rattle.std.specs.Prelude.{Option, Some, None, Result, Ok, Err, OnOk}
+use Rattle.sst_entries.specs.declared.error.Error.{Error}
+use Rattle.sst_entries.specs.Entry.{Entry}
+use Rattle.lsm_readers.specs.Scan.{Scan, block_result, ended, entries_from, lend_first, lend_next}
+use Rattle.lsm_readers.specs.Scan.{lifted_result, scan_left, unlend}
+use Rattle.lsm_readers.proofs.Scans.{block_left, ended_left, entry_left}
+use Rattle.lsm_files.specs.declared.error.FileError.{FileError}
+use Rattle.lsm_files.specs.declared.error.FileError.TheVariants.{Io, Table}
+use Rattle.lsm_files.specs.Reads.{Reads}
+use Rattle.lsm_files.specs.Results.{FileGives}
+use Rattle.lsm_files.specs.Scan.{in_file, next_of, rest_of}
+
+-- ---- what is left, by the next entry or block
+
+module _ (u : Scan) where
+  entry_ok : (e x : Entry) (es : List Entry) → u.entries ≡ e ∷ es
+      → lifted_result u.global_seqno e ≡ Ok x
+      → scan_left u ≡ Ok x ∷ scan_left (record u { lent = Some x; entries = es })
+  entry_ok e x es some is =
+      let left = entry_left u.body u.global_seqno e es u.position u.blocks in
+      ap (λ (ys : List Entry). entries_from u.body u.global_seqno ys u.position u.blocks) some
+      ∙ (rw is at left)
+
+  entry_err : (e : Entry) (f : Error) (es : List Entry) → u.entries ≡ e ∷ es
+      → lifted_result u.global_seqno e ≡ Err f → scan_left u ≡ Err f ∷ []
+  entry_err e f es some is =
+      let left = entry_left u.body u.global_seqno e es u.position u.blocks in
+      ap (λ (ys : List Entry). entries_from u.body u.global_seqno ys u.position u.blocks) some
+      ∙ (rw is at left)
+
+  at_block : (n : ℕ) → u.entries ≡ [] → u.blocks ≡ suc n
+      → scan_left u ≡ entries_from u.body u.global_seqno [] u.position (suc n)
+  at_block n none some = rw (none, some) refl
+
+  pub block_ok : (es : List Entry) (next : ℕ) → u.entries ≡ [] → 0 < u.blocks
+      → block_result u.body u.position ≡ Ok (es, next)
+      → scan_left u ≡ entries_from u.body u.global_seqno es next (u.blocks - 1)
+  block_ok es next none some is =
+      let left = block_left u.body u.global_seqno u.position (u.blocks - 1) in
+      at_block (u.blocks - 1) none (omega (arith, some)) ∙ (rw is at left)
+
+  pub block_err : (f : Error) → u.entries ≡ [] → 0 < u.blocks
+      → block_result u.body u.position ≡ Err f → scan_left u ≡ Err f ∷ []
+  block_err f none some is =
+      let left = block_left u.body u.global_seqno u.position (u.blocks - 1) in
+      at_block (u.blocks - 1) none (omega (arith, some)) ∙ (rw is at left)
+
+-- ---- a step within the block
+
+abbrev Step : Reads → Scan → Result Bool FileError × Scan → Type 0
+Step reads u p = FileGives {X = Bool} reads (λ _. (p.1).lent) p.0 (next_of (scan_left u))
+    × OnOk p.0 (scan_left p.1 ≡ rest_of (scan_left u))
+
+module _ (reads : Reads) (u : Scan) where
+  first_came : (e : Entry) (es : List Entry) (one : Result Entry Error) → u.entries ≡ e ∷ es
+      → lifted_result u.global_seqno e ≡ one → Step reads u (in_file (lend_first u es one))
+  first_came e es (Ok x) some is =
+      let whole = entry_ok u e x es some is in
+      (ap next_of whole, sym (ap rest_of whole))
+  first_came e es (Err f) some is =
+      let whole = entry_err u e f es some is in
+      (λ memory. ap next_of whole, tt)
+
+  came_by : (es : List Entry) (r : Result Bool FileError) (t : Scan) → u.entries ≡ es
+      → (r, t) ≡ in_file (lend_next u es) → (r ≡ Ok false → ⊥) → Step reads u (r, t)
+  came_by [] r t none is some =
+      absurd (some (ap (λ (p : Result Bool FileError × Scan). p.0) is))
+  came_by (e ∷ es) r t stands is some = subst (Step reads u) (sym is)
+      (first_came e es (lifted_result u.global_seqno e) stands refl)
+
+  -- an entry came, or its error
+  pub entry_came : (r : Result Bool FileError) (t : Scan)
+      → (r, t) ≡ in_file (lend_next u u.entries) → (r ≡ Ok false → ⊥) → Step reads u (r, t)
+  entry_came r t is some = came_by u.entries r t refl is some
+
+none_by : (u : Scan) (es : List Entry) (r : Result Bool FileError) (t : Scan) → u.entries ≡ es
+    → (r, t) ≡ in_file (lend_next u es) → r ≡ Ok false → (u.entries ≡ []) × (t ≡ unlend u)
+none_by u [] r t none is no = (none, ap (λ (p : Result Bool FileError × Scan). p.1) is)
+none_by u (e ∷ es) r t stands is no = first (lifted_result u.global_seqno e) is
+  where
+    first : (one : Result Entry Error) → (r, t) ≡ in_file (lend_first u es one)
+        → (u.entries ≡ []) × (t ≡ unlend u)
+    first (Ok x) is =
+        let wrong : Ok true ≡ Ok false = sym (ap (λ (p : Result Bool FileError × Scan). p.0) is)
+        ∙ no in absurd cc
+    first (Err f) is =
+        let wrong : Err (Table f) ≡ Ok false =
+        sym (ap (λ (p : Result Bool FileError × Scan). p.0) is) ∙ no in absurd cc
+
+-- no entry is left in the block
+pub no_entry : (u t : Scan) (r : Result Bool FileError)
+    → (r, t) ≡ in_file (lend_next u u.entries) → r ≡ Ok false → (u.entries ≡ []) × (t ≡ unlend u)
+no_entry u t r is no = none_by u u.entries r t refl is no
