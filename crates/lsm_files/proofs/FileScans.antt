@@ -1,7 +1,7 @@
 -- A scan of a table in its file: what a step of it comes to.
-use Rattle.std.proofs.Common.{◌≡◌, ℕ, suc, ◌+◌, ◌-◌, ◌<◌, Bool, true, false, List, [], ◌∷◌, refl, sym}
+use Rattle.std.proofs.Common.{◌≡◌, ℕ, zero, suc, ◌+◌, ◌-◌, ◌<◌, Bool, true, false, List, [], ◌∷◌, refl, sym}
 use Rattle.std.proofs.Common.{ap, subst, ◌∙◌, arith}
-use Rattle.std.specs.Prelude.{Option, Some, None, Result, Ok, Err, OnOk}
+use Rattle.std.specs.Prelude.{Option, Some, None, Result, Ok, Err, OnOk, is_some}
 use Rattle.sst_entries.specs.declared.error.Error.{Error}
 use Rattle.sst_entries.specs.Entry.{Entry}
 use Rattle.lsm_readers.specs.Scan.{Scan, block_result, ended, entries_from, lend_first, lend_next}
@@ -94,3 +94,69 @@ none_by u (e ∷ es) r t stands is no = first (lifted_result u.global_seqno e) i
 pub no_entry : (u t : Scan) (r : Result Bool FileError)
     → (r, t) ≡ in_file (lend_next u u.entries) → r ≡ Ok false → (u.entries ≡ []) × (t ≡ unlend u)
 no_entry u t r is no = none_by u u.entries r t refl is no
+
+-- ---- what a step within the block leaves
+
+abbrev Left : Scan → Result Bool FileError × Scan → Type 0
+Left u (Ok true, t) = is_some t.lent ≡ true
+Left u (Ok false, t) = Unit {0}
+Left u (Err e, t) = t ≡ ended u
+
+left_by : (u : Scan) (es : List Entry) → Left u (in_file (lend_next u es))
+left_by u [] = tt
+left_by u (e ∷ es) = first (lifted_result u.global_seqno e)
+  where
+    first : (one : Result Entry Error) → Left u (in_file (lend_first u es one))
+    first (Ok x) = refl
+    first (Err f) = refl
+
+pub some_lent : (u t : Scan) (more : Bool) → (Ok more, t) ≡ in_file (lend_next u u.entries)
+    → more ≡ true → true ≡ is_some t.lent
+some_lent u t more is some =
+    let here : (Ok true, t) ≡ in_file (lend_next u u.entries) =
+    subst (λ (b : Bool). (Ok b, t) ≡ in_file (lend_next u u.entries)) some is in
+    sym (subst (Left u) (sym here) (left_by u u.entries))
+
+pub error_ends : (u t : Scan) (e : FileError) → (Err e, t) ≡ in_file (lend_next u u.entries)
+    → t ≡ ended u
+error_ends u t e is = subst (Left u) (sym is) (left_by u u.entries)
+
+-- ---- the end of a block
+
+not_some : (n : ℕ) → (0 < n → ⊥) → n ≡ 0
+not_some zero no = refl
+not_some (suc n) no = absurd (no (omega arith))
+
+-- no block is left
+pub over : (s u t : Scan) → scan_left u ≡ scan_left s → u.entries ≡ [] → t ≡ unlend u
+    → (0 < t.blocks → ⊥) → scan_left s ≡ []
+over s u t left none is last =
+    let blocks : u.blocks ≡ 0 = ap (λ (v : Scan). v.blocks) (sym is) ∙ not_some t.blocks last in
+    sym left ∙ ended_left u (none, blocks)
+
+-- the next block was read
+pub on_block : (s u t v : Scan) → scan_left u ≡ scan_left s → u.entries ≡ [] → t ≡ unlend u
+    → 0 < t.blocks → block_result t.body t.position ≡ Ok (v.entries, v.position)
+    → scan_left v ≡ entries_from t.body t.global_seqno v.entries v.position (t.blocks - 1)
+    → scan_left v ≡ scan_left s
+on_block s u t v left none is some read next =
+    next
+    ∙ sym (block_ok t v.entries v.position (ap (λ (w : Scan). w.entries) is ∙ none) some read)
+    ∙ ap (λ (w : Scan). scan_left w) is ∙ left
+
+-- it could not be read
+block_fails : {X Y : Type 0} (reads : Reads) (view : X → List Entry × ℕ) (seen : Y → Option Entry)
+    (s t : Scan) (f : FileError) → scan_left t ≡ scan_left s → t.entries ≡ [] → 0 < t.blocks
+    → FileGives reads view (Err f) (block_result t.body t.position)
+    → FileGives reads seen (Err f) (next_of (scan_left s))
+block_fails reads view seen s t (Io f) left none some fails = fails
+block_fails reads view seen s t (Table f) left none some fails = λ memory.
+    ap next_of (sym left ∙ block_err t f none some (fails memory))
+
+pub no_block : {X Y : Type 0} (reads : Reads) (view : X → List Entry × ℕ) (seen : Y → Option Entry)
+    (s u t : Scan) (f : FileError) → scan_left u ≡ scan_left s → u.entries ≡ [] → t ≡ unlend u
+    → 0 < t.blocks → FileGives reads view (Err f) (block_result t.body t.position)
+    → FileGives reads seen (Err f) (next_of (scan_left s))
+no_block reads view seen s u t f left none is some fails =
+    block_fails reads view seen s t f (ap (λ (w : Scan). scan_left w) is ∙ left)
+    (ap (λ (w : Scan). w.entries) is ∙ none) some fails

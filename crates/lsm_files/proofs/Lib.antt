@@ -5,3 +5,4 @@ pub mod Headed
 pub mod Gets
 pub mod Opened
 pub mod FileScans
+pub mod Aheads

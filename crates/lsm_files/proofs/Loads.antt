@@ -1,6 +1,8 @@
 -- Loads of blocks whose bytes were read.
 use Rattle.std.proofs.Common.{◌≡◌, ℕ, ◌+◌, ◌≤◌, false, List, length, slice_range, subst, ap, sym, ◌∙◌}
-use Rattle.std.specs.Prelude.{Result, Ok, Err, IfErr, IfOk}
+use Rattle.std.proofs.lemmas.Result.{err_from_is_err_and}
+use Rattle.std.specs.Prelude.{Result, Ok, Err}
+use Rattle.std.specs.Result.{IsErrAnd}
 use Rattle.sst_entries.specs.declared.error.Error.{Error}
 use Rattle.sst_entries.specs.declared.error.Error.TheVariants.{Truncated}
 use Rattle.sst_entries.specs.Error.{Fails, Gives, is_memory}
@@ -9,6 +11,13 @@ use Rattle.sst_blocks.specs.Access.{IsInMemory, IsKnown as IsKnownTo}
 use Rattle.sst_blocks.specs.Block.{Loaded, decode_block, load_result}
 use Rattle.sst_blocks.proofs.LoadLemmas.{decode_part, load_truncated}
 use Rattle.lsm_files.specs.Reads.{IsKnown, IsPartAt, Reads, access_of, may_fail, unknown, whole}
+
+-- a call that passed a fault on
+pub passes_fault : {X Y : Type 0} (view : X → Y) (r : Result X Error) (returned : Result Y Error)
+    (e : Error) → IsErrAnd r (λ y. y ≡ e) → Fails e returned → Gives view r returned
+passes_fault view r returned e is fails =
+    let p = err_from_is_err_and r is in
+    rw (p.1, p.2) fails
 
 pub known_to : (r : Reads) → IsKnownTo (access_of r) → IsKnown r
 known_to whole known = tt

@@ -7,7 +7,7 @@ use Rattle.sst_blocks.specs.declared.section.Section.{Section}
 use Rattle.sst_blocks.specs.Sections.{body_of, section_in, section_names, trailer_fault, trailer_of}
 use Rattle.lsm_files.specs.declared.error.FileError.{FileError}
 use Rattle.lsm_files.specs.declared.error.FileError.TheVariants.{Io, Table}
-use Rattle.lsm_files.specs.declared.table.Tail.{Tail}
+use Rattle.lsm_files.specs.declared.tail.Tail.{Tail}
 use Rattle.lsm_files.specs.Reads.{MayFail, Reads}
 
 -- The last bytes of a file, and how many are before them.
@@ -18,7 +18,7 @@ pub record IsTailOf (bytes : List ℕ) (tail : Tail) : Type 0 where
 -- The sections that a valid trailer lists, and the number of bytes before it.
 pub record IsTocOf (bytes : List ℕ) (toc : List (Option Section)) (body_len : ℕ) : Type 0 where
   pub fine : trailer_fault bytes ≡ None
-  pub toc : toc ≡ map (section_in bytes) section_names
+  pub sections : toc ≡ map (section_in bytes) section_names
   pub body : length (body_of bytes) ≡ body_len
 
 -- A read failed, or the error is the fault of the trailer.

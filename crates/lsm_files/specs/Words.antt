@@ -10,7 +10,7 @@ pub use Rattle.sst_blocks.specs.Access.{IsKnown as IsKnownTo}
 pub use Rattle.sst_blocks.specs.Block.{Loaded, decode_block, header_len}
 unfoldable pub use Rattle.sst_blocks.specs.Block.{load_at_result, load_result}
 pub use Rattle.sst_blocks.specs.Opened.{none_opened, with_load}
-pub use Rattle.sst_blocks.specs.Sections.{body_of}
+pub use Rattle.sst_blocks.specs.Sections.{body_of, trailer_len}
 pub use Rattle.sst_blocks.specs.declared.block_type.BlockType.TheVariants.{Data}
 pub use Rattle.sst_blocks.specs.filter.KeyHash.{hash_of}
 pub use Rattle.lsm_readers.specs.point.Answer.{LoadsFew, lift, table_answer}
@@ -19,7 +19,7 @@ pub use Rattle.lsm_readers.specs.point.Many.{answers_to, many_results}
 pub use Rattle.lsm_readers.specs.point.Parts.{parts_result, recovered_result}
 pub use Rattle.lsm_readers.specs.point.Read.{Opens}
 pub use Rattle.lsm_readers.specs.point.Table.{IsRecovered, OpenTable, parts_of}
-pub use Rattle.lsm_readers.specs.Scan.{IsEndedScan, behind, block_result, ended, fault_of}
+pub use Rattle.lsm_readers.specs.Scan.{IsEndedScan, block_result, ended, fault_of}
 pub use Rattle.lsm_readers.specs.Scan.{lend_next, scan_left, scan_results}
 pub use Rattle.lsm_readers.specs.Stored.{StoresList}
 pub use Rattle.lsm_files.specs.Keeping.{IsLoaded, KeepsOf}

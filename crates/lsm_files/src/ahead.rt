@@ -75,8 +75,8 @@ impl<'a, R: ReadAt, A: Allocator + Clone> Ahead<'a, R, A> {
         ensures returned { spec.IsKnown R.reads →
             spec.FileGives R.reads (λ (b : spec.Loaded × ℕ). b.0) result
             (spec.load_at_result (spec.body_of self.old) position kind) }
-        ensures next { spec.IsKnown R.reads →
-            IfOk result (λ b. b.1 ≡ spec.behind position b.0) }
+        ensures next { IfOk result
+            (λ b. b.1 ≡ position + spec.header_len + length (b.0).payload) }
         ensures kind { IfOk result (λ b. (b.0).kind ≡ kind) }
         ensures bytes { self.new ≡ self.old }
     {
@@ -159,6 +159,7 @@ fn decoded<A: Allocator + Clone>(
     ensures returned { spec.FileGives spec.whole (λ (b : spec.Loaded). b) result
         (spec.decode_block kind bytes) }
     ensures kind { IfOk result (λ b. b.kind ≡ kind) }
+    ensures size { IfOk result (λ b. length b.payload + spec.header_len ≡ length bytes) }
 {
     match alloc.clone() {
         Ok(alloc) => Ok(Block::decode(alloc, kind, bytes)?),

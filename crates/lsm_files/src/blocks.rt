@@ -81,7 +81,7 @@ impl<'a, R: ReadAt, A: Allocator + Clone> FileBlocks<'a, R, A> {
         ensures ok { IfOk found (λ x. result ≡ Ok x) }
         ensures err { IfErr found (λ e. spec.IsErrAnd result (spec.IsFailureOr R.reads e)) }
         // A failed read is never reported as a fault of the table, nor as `OutOfMemory`.
-        ensures failed { self.2 ≡ true → IfErr result spec.IsIo }
+        ensures failed { self.entry.2 ≡ true → IfErr result spec.IsIo }
     {
         match found {
             Ok(value) => Ok(value),
@@ -91,7 +91,7 @@ impl<'a, R: ReadAt, A: Allocator + Clone> FileBlocks<'a, R, A> {
 
     /// The system's error if a read failed, else this one.
     fn failure_or(self, error: Error) -> FileError
-        ensures failed { self.2 ≡ true → spec.IsIo result }
+        ensures failed { self.entry.2 ≡ true → spec.IsIo result }
         ensures returned { spec.IsFailureOr R.reads error result }
     {
         match self.failure {

@@ -42,7 +42,7 @@ impl<'a, R: ReadAt, A: Allocator> Model for Keeping<'a, R, A> {
 impl<'a, R: ReadAt, A: Allocator + Clone> Keeping<'a, R, A> {
     /// Returns a source with nothing cached.
     pub(crate) fn new(source: FileBlocks<'a, R, A>) -> Keeping<'a, R, A>
-        ensures { result ≡ source }
+        ensures { result ≡ source.entry }
     {
         Keeping {
             source,
@@ -56,7 +56,7 @@ impl<'a, R: ReadAt, A: Allocator + Clone> Keeping<'a, R, A> {
     pub(crate) fn result<T: Drop>(self, found: Result<T, Error>) -> Result<T, FileError>
         ensures ok { IfOk found (λ x. result ≡ Ok x) }
         ensures err { IfErr found (λ e. spec.IsErrAnd result (spec.IsFailureOr R.reads e)) }
-        ensures failed { self.2 ≡ true → IfErr result spec.IsIo }
+        ensures failed { self.entry.2 ≡ true → IfErr result spec.IsIo }
     {
         self.source.result(found)
     }

@@ -9,6 +9,7 @@ mod many;
 mod read_at;
 mod scanner;
 mod table;
+mod tail;
 
 pub use blocks::FileBlocks;
 pub use error::FileError;

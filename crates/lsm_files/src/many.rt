@@ -25,7 +25,8 @@ fn read_each<S: LoadBlocks>(
     for query in queries {
         let key = query.key.as_slice();
         let key_hash = Builder::<S::Alloc>::get_hash(key);
-        found.push(point_in(source, inner, key, query.seqno, key_hash)?)?;
+        let one = point_in(source, inner, key, query.seqno, key_hash)?;
+        found.push(one)?;
     }
     Ok(found)
 }

@@ -1,5 +1,5 @@
 //! Bytes that are read at an offset.
-ghost use Rattle.std.specs.Prelude.{◌≡◌, ◌+◌, ◌<◌, length, IfSome, None};
+ghost use Rattle.std.specs.Prelude.{◌≡◌, ◌+◌, ◌<◌, length, IfSome, None, OnErr, OnOk};
 ghost use Rattle.lsm_files.specs.Words as spec;
 
 use sst_blocks::Slice;

@@ -2,11 +2,10 @@
 ghost use Rattle.std.specs.Prelude.{◌≡◌, ◌-◌, [], List, Option, Ok, IfErr, IfOk, IsOk, length};
 ghost use Rattle.lsm_files.specs.Words as spec;
 
+use crate::tail::read_toc;
 use crate::{FileBlocks, FileError, ReadAt};
 use lsm_readers::{Inner, point_in, recover_in};
-use sst_blocks::{
-    Builder, Checksum, Error, InternalValue, Opened, SeqNo, TRAILER_LEN, Toc, TreeId,
-};
+use sst_blocks::{Builder, Checksum, InternalValue, Opened, SeqNo, Toc, TreeId};
 use std::alloc::{Allocator, Global};
 use std::marker::Model;
 
@@ -39,46 +38,6 @@ impl<R: ReadAt, A: Allocator> Model for FileTable<R, A> {
     ghost invariant = { λ t. IsKnown R.reads →
         (t.body_len ≡ length (body_of (R.bytes t.file))) ×
         IsRecovered (table_of (R.bytes t.file) t.inner) };
-}
-
-/// The last bytes of a file, at most as many as a trailer has, and how many are before them.
-#[derive(Clone, Copy)]
-struct Tail {
-    bytes: [u8; TRAILER_LEN],
-    len: usize,
-    body_len: u64,
-}
-
-/// Reads the last bytes of a file.
-fn read_tail<R: ReadAt>(file: &R) -> Result<Tail, FileError>
-    ensures read { spec.IsKnown R.reads →
-        IfOk result (λ tail. spec.IsTailOf (R.bytes file.now) tail) }
-    ensures err { IfErr result (spec.IsFailure R.reads) }
-{
-    let file_len = file.len()?;
-    let len = file_len.min(TRAILER_LEN as u64) as usize;
-    let body_len = file_len - len as u64;
-    let mut bytes = [0; TRAILER_LEN];
-    file.read_exact_at(&mut bytes[..len], body_len)?;
-    Ok(Tail {
-        bytes,
-        len,
-        body_len,
-    })
-}
-
-/// Reads the table of contents of a file.
-fn read_toc<R: ReadAt>(file: &R) -> Result<(Toc, u64), FileError>
-    ensures toc { spec.IsKnown R.reads → IfOk result (λ read.
-        spec.IsTocOf (R.bytes file.now) read.0 read.1) }
-    ensures fault { spec.IsKnown R.reads →
-        IfErr result (spec.IsTrailerError R.reads (R.bytes file.now)) }
-{
-    let tail = read_tail(file)?;
-    match Toc::of_trailer(&tail.bytes[..tail.len], tail.body_len) {
-        Ok(toc) => Ok((toc, tail.body_len)),
-        Err(error) => Err(FileError::Table(error)),
-    }
 }
 
 impl<R: ReadAt + Drop, A: Allocator + Clone> FileTable<R, A> {
@@ -175,6 +134,7 @@ impl<R: ReadAt + Drop, A: Allocator + Clone> FileTable<R, A> {
     /// but [`Error::OutOfMemory`] can hide any of them.
     ///
     /// [`Table::get`]: lsm_readers::Table::get
+    /// [`Error::OutOfMemory`]: sst_blocks::Error::OutOfMemory
     pub fn get(
         &self,
         key: &[u8],

@@ -6,6 +6,10 @@ mod failures;
 #[cfg(test)]
 mod given;
 #[cfg(test)]
+mod many;
+#[cfg(test)]
+mod scans;
+#[cfg(test)]
 mod system;
 #[cfg(test)]
 mod tables;

@@ -15,4 +15,4 @@ returns-clause-returned g c known =
     let bytes = g.R.ReadAt.bytes c.args.file.now in
     let inner = c.recover_in-inner in
     passed_on reads (parts_of {A = g.row.A.Denot}) c.result.result inner.result (parts_result bytes c.args.global_seqno c.args.pins.0 c.args.pins.1) c.result.ensures.ok c.result.ensures.err
-    (inner.ensures.returned (to_known reads known) bytes (c.requires known).toc (ap body_of c.new-source.ensures.bytes))
+    (inner.ensures.returned (to_known reads known) bytes (c.requires known).sections (ap body_of c.new-source.ensures.bytes))

@@ -3,8 +3,7 @@ use Rattle.sst_entries.specs.Error.{Gives}
 use Rattle.sst_blocks.specs.Block.{Loaded, load_result}
 use Rattle.sst_blocks.specs.Sections.{body_of}
 use Rattle.sst_blocks.proofs.LoadLemmas.{kind_given}
-use Rattle.lsm_readers.proofs.Steps.{passes_fault}
-use Rattle.lsm_files.proofs.Loads.{known_to, not_at_hand, past_loads}
+use Rattle.lsm_files.proofs.Loads.{known_to, not_at_hand, passes_fault, past_loads}
 use Rattle.lsm_files.proofs.blocks.FileBlocksLoadBlocks.load.Goals as goal
 
 pub returns-in_err-bytes-clause-returned : goal.returns-in_err-bytes-clause-returned
