@@ -14,7 +14,7 @@ use Rattle.sst_blocks.specs.Sections.{body_of}
 use Rattle.sst_blocks.proofs.LoadLemmas.{decode_part, load_at_truncated}
 use Rattle.lsm_files.specs.declared.error.FileError.{FileError}
 use Rattle.lsm_files.specs.declared.error.FileError.TheVariants.{Io, Table}
-use Rattle.lsm_files.specs.Reads.{IsPartAt, Reads}
+use Rattle.lsm_files.specs.Reads.{IsPartAt, Reads, whole}
 use Rattle.lsm_files.specs.Results.{FileGives, IsReadError}
 use Rattle.lsm_files.specs.Tail.{IsPartError}
 use Rattle.lsm_files.proofs.Parts.{part_of_body, range_length}
@@ -75,6 +75,14 @@ kept_part bytes chunk part at start position len read within there is ends =
     (is ∙ ap (λ (n : ℕ). slice_range chunk start (start + n)) (sym size)) in
     part_of_body bytes position part (subst (λ (n : ℕ). IsPartAt bytes n part) there of_bytes)
     (omega (arith, size, ends))
+
+-- the first of bytes that were just read
+pub first_part : (bytes chunk part : List ℕ) (position len : ℕ) → IsPartAt bytes position chunk
+    → len ≤ length chunk → part ≡ slice_range chunk 0 len → position + len ≤ length (body_of bytes)
+    → IsPartAt (body_of bytes) position part
+first_part bytes chunk part position len read within is ends =
+    kept_part bytes chunk part position 0 position len read (omega (arith, within)) (omega arith)
+    (is ∙ ap (λ (n : ℕ). slice_range chunk 0 n) (let e : len ≡ 0 + len = omega arith in e)) ends
 
 abbrev sizes : ℕ → Result ℕ Error
 sizes n = Ok n
@@ -152,3 +160,20 @@ part_wants reads len end r e is wanted =
 pub part_short : (reads : Reads) (len end : ℕ) → len < end
     → IsPartError reads len end (Table Truncated)
 part_short reads len end past = λ _. (refl, past)
+
+-- ---- an error of decoding
+
+whole_error : {X Y Z : Type 0} (reads : Reads) (view : X → Z) (seen : Y → Z) (e : FileError)
+    (returned : Result Z Error) → FileGives {X = Y} whole seen (Err e) returned
+    → FileGives {X = X} reads view (Err e) returned
+whole_error reads view seen (Io f) returned none = absurd none
+whole_error reads view seen (Table f) returned fails = fails
+
+-- the error of bytes in memory
+pub passed_whole : {X Y Z : Type 0} (reads : Reads) (view : X → Z) (seen : Y → Z)
+    (r : Result X FileError) (e : FileError) (returned : Result Z Error)
+    → IsErrAnd r (λ y. y ≡ e) → FileGives {X = Y} whole seen (Err e) returned
+    → FileGives reads view r returned
+passed_whole reads view seen r e returned is gives =
+    let p = err_from_is_err_and r is in
+    rw (p.1, p.2) (whole_error reads view seen e returned gives)

@@ -1,17 +1,27 @@
 -- A scan of a table in its file: what a step of it comes to.
 use Rattle.std.proofs.Common.{◌≡◌, ℕ, zero, suc, ◌+◌, ◌-◌, ◌<◌, Bool, true, false, List, [], ◌∷◌, refl, sym}
 use Rattle.std.proofs.Common.{ap, subst, ◌∙◌, arith}
+use Rattle.std.proofs.lemmas.Result.{err_from_is_err_and}
 use Rattle.std.specs.Prelude.{Option, Some, None, Result, Ok, Err, OnOk, is_some}
+use Rattle.std.specs.Result.{IsErrAnd}
+use Rattle.sst_blocks.specs.Block.{Loaded, entries_of, load_at_result}
+use Rattle.sst_blocks.specs.Opened.{with_load}
+use Rattle.sst_blocks.specs.declared.block_type.BlockType.TheVariants.{Data}
+use Rattle.sst_blocks.specs.declared.opened.Opened.{Opened}
+use Rattle.lsm_readers.specs.point.Read.{◌>>=◌}
 use Rattle.sst_entries.specs.declared.error.Error.{Error}
 use Rattle.sst_entries.specs.Entry.{Entry}
-use Rattle.lsm_readers.specs.Scan.{Scan, block_result, ended, entries_from, lend_first, lend_next}
+use Rattle.lsm_readers.specs.Scan.{Scan, behind, block_result, ended, entries_from, fault_of, lend_first, lend_next}
 use Rattle.lsm_readers.specs.Scan.{lifted_result, scan_left, unlend}
 use Rattle.lsm_readers.proofs.Scans.{block_left, ended_left, entry_left}
 use Rattle.lsm_files.specs.declared.error.FileError.{FileError}
 use Rattle.lsm_files.specs.declared.error.FileError.TheVariants.{Io, Table}
 use Rattle.lsm_files.specs.Reads.{Reads}
-use Rattle.lsm_files.specs.Results.{FileGives}
+use Rattle.lsm_files.specs.Results.{FileFaults, FileGives}
 use Rattle.lsm_files.specs.Scan.{in_file, next_of, rest_of}
+
+abbrev answered : {X : Type 0} → X → Result X Error
+answered x = Ok x
 
 -- ---- what is left, by the next entry or block
 
@@ -160,3 +170,69 @@ pub no_block : {X Y : Type 0} (reads : Reads) (view : X → List Entry × ℕ) (
 no_block reads view seen s u t f left none is some fails =
     block_fails reads view seen s t f (ap (λ (w : Scan). scan_left w) is ∙ left)
     (ap (λ (w : Scan). w.entries) is ∙ none) some fails
+
+-- ---- the next block
+
+-- the error of a step, after which nothing is done
+bind_error : {X Y Z W : Type 0} (reads : Reads) (view : X → Z) (seen : Y → W) (f : Z → W)
+    (returned : Result Z Error) (e : FileError) → FileGives reads view (Err e) returned
+    → FileGives reads seen (Err e) (returned >>= λ z. Ok (f z))
+bind_error reads view seen f returned (Io g) may = may
+bind_error {Z = Z} {W = W} reads view seen f returned (Table g) fails = λ memory.
+    ap (λ (r : Result Z Error). r >>= λ z. answered (f z)) (fails memory)
+
+-- a block could not be read
+pub block_refuses : {X Y : Type 0} (reads : Reads) (view : X → Loaded) (seen : Y → List Entry × ℕ)
+    (body : List ℕ) (position : ℕ) (r : Result Y FileError) (e : FileError)
+    → IsErrAnd r (λ y. y ≡ e) → FileGives reads view (Err e) (load_at_result body position Data)
+    → FileGives reads seen r (block_result body position)
+block_refuses reads view seen body position r e is fails =
+    let p = err_from_is_err_and r is in
+    rw (p.1, p.2) (bind_error reads view seen (λ b. (entries_of b, behind position b))
+    (load_at_result body position Data) e fails)
+
+pub block_read : (body : List ℕ) (position : ℕ) (b : Loaded) (es : List Entry) (next : ℕ)
+    → load_at_result body position Data ≡ Ok b → es ≡ entries_of b → next ≡ behind position b
+    → block_result body position ≡ Ok (es, next)
+block_read body position b es next is entries end = rw (is, entries, end) refl
+
+-- the block that follows
+pub moved_by : (u s : Scan) (body : List ℕ) (es : List Entry) (next : ℕ) (o : Opened) → u ≡ s
+    → body ≡ u.body → o ≡ with_load Data u.opened
+    → record u { body = body; lent = None; entries = es; position = next; blocks = u.blocks - 1; opened = o }
+    ≡ record s { lent = None; entries = es; position = next; blocks = s.blocks - 1; opened = with_load Data s.opened }
+moved_by u s body es next o same kept counts = rw (kept, counts, same) refl
+
+pub halted_by : (u s : Scan) (body : List ℕ) (o : Opened) → u ≡ s → body ≡ u.body
+    → o ≡ with_load Data u.opened → record (ended u) { body = body; opened = o }
+    ≡ record (ended s) { opened = with_load Data s.opened }
+halted_by u s body o same kept counts = rw (kept, counts, same) refl
+
+-- ---- a new scan
+
+fault_same : (body : List ℕ) (position : ℕ) (r : Result Loaded Error)
+    → fault_of (r >>= λ b. Ok (entries_of b, behind position b)) ≡ fault_of r
+fault_same body position (Ok b) = refl
+fault_same body position (Err e) = refl
+
+error_faults : {X Y Z : Type 0} (reads : Reads) (view : X → Z) (e : FileError)
+    (returned : Result Z Error) (fault : Option Error) → fault_of returned ≡ fault
+    → FileGives reads view (Err e) returned → FileFaults {X = Y} reads (Err e) fault
+error_faults reads view (Io f) returned fault same fails = fails
+error_faults reads view (Table f) returned fault same fails = λ memory.
+    sym same ∙ ap fault_of (fails memory)
+
+-- its first block could not be read
+pub scan_refused : {X Y : Type 0} (reads : Reads) (view : X → List Entry × ℕ) (body : List ℕ)
+    (r : Result Y FileError) (e : FileError) → IsErrAnd r (λ y. y ≡ e)
+    → FileGives reads view (Err e) (block_result body 0)
+    → FileFaults reads r (fault_of (load_at_result body 0 Data))
+scan_refused {Y = Y} reads view body r e is fails =
+    let p = err_from_is_err_and r is in
+    rw (p.1, p.2) (error_faults {Y = Y} reads view e (block_result body 0)
+    (fault_of (load_at_result body 0 Data)) (fault_same body 0 (load_at_result body 0 Data)) fails)
+
+pub scan_opened : (body : List ℕ) (es : List Entry) (next : ℕ) → block_result body 0 ≡ Ok (es, next)
+    → fault_of (load_at_result body 0 Data) ≡ None
+scan_opened body es next is =
+    sym (fault_same body 0 (load_at_result body 0 Data)) ∙ ap fault_of is

@@ -31,7 +31,7 @@ module _ {X Y : Type 0} (reads : Reads) (view : X → Y) (bytes : List ℕ) (par
   trailer_passes r fine gives =
       subst (λ (t : Option Error). FileGives reads view r (unless t parts)) (sym fine) gives
 
-same_error : {X Y Z : Type 0} (reads : Reads) (view : X → Z) (seen : Y → Z) (e : FileError)
+pub same_error : {X Y Z : Type 0} (reads : Reads) (view : X → Z) (seen : Y → Z) (e : FileError)
     (returned : Result Z Error) → FileGives {X = Y} reads seen (Err e) returned
     → FileGives {X = X} reads view (Err e) returned
 same_error reads view seen (Io f) returned may = may

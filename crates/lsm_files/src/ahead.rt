@@ -2,6 +2,7 @@
 ghost use Rattle.std.specs.Prelude.{◌≡◌, ◌+◌, ◌<◌, ◌≤◌, ◌^◌, ℕ, length, IfErr, IfOk, IfSome, OnOk};
 ghost use Rattle.lsm_files.specs.Words as spec;
 
+use crate::read_at::read_slice;
 use crate::{FileError, ReadAt};
 use sst_blocks::{Block, BlockType, Error, Header, Slice, block_size};
 use std::alloc::{Allocator, Global};
@@ -105,8 +106,13 @@ impl<'a, R: ReadAt, A: Allocator + Clone> Ahead<'a, R, A> {
             return Ok(self.chunk.bytes.slice(start, start + len as usize)?);
         }
         let size = len.max(AHEAD.min(self.body_len - position));
-        self.chunk = read_chunk(self.file, self.alloc, position, size)?;
-        Ok(self.chunk.bytes.slice(0, len as usize)?)
+        let bytes = read_slice(self.file, self.alloc, position, size)?;
+        let part = bytes.slice(0, len as usize)?;
+        self.chunk = Chunk {
+            bytes,
+            at: position,
+        };
+        Ok(part)
     }
 }
 
@@ -121,33 +127,6 @@ fn kept<A: Allocator>(chunk: &Chunk<A>, position: u64, len: u64) -> Option<usize
         return None;
     }
     Some(start as usize)
-}
-
-/// Reads some bytes of a file into new memory. Fails if the read does, or if memory runs out.
-fn read_chunk<R: ReadAt, A: Allocator + Clone>(
-    file: &R,
-    alloc: &A,
-    at: u64,
-    size: u64,
-) -> Result<Chunk<A>, FileError>
-    ensures at { IfOk result (λ chunk. chunk.at ≡ at) }
-    ensures len { IfOk result (λ chunk. length chunk.bytes ≡ size) }
-    ensures part { spec.IsKnown R.reads →
-        IfOk result (λ chunk. spec.IsPartAt (R.bytes file.now) at chunk.bytes) }
-    ensures err { IfErr result (spec.IsReadError R.reads (length (R.bytes file.now)) (at + size)) }
-{
-    let mut bytes = zeros(alloc, size as usize)?;
-    file.read_exact_at(&mut bytes, at)?;
-    let bytes = Slice::from_vec(bytes)?;
-    Ok(Chunk { bytes, at })
-}
-
-/// A vector of zeros. Fails with [`Error::OutOfMemory`] only.
-fn zeros<A: Allocator + Clone>(alloc: &A, len: usize) -> Result<Vec<u8, A>, Error>
-    ensures len { IfOk result (λ zeros. length zeros.items ≡ len) }
-    ensures err { IfErr result (λ e. e ≡ spec.OutOfMemory) }
-{
-    Ok(vec![in alloc.clone()?; 0; len]?)
 }
 
 /// Decodes a block from its bytes. Fails as [`Block::decode`].

@@ -2,6 +2,7 @@
 ghost use Rattle.std.specs.Prelude.{◌≡◌, ◌+◌, ◌≤◌, length, IfErr, IfOk, true, false, Ok};
 ghost use Rattle.lsm_files.specs.Words as spec;
 
+use crate::read_at::read_slice;
 use crate::{FileError, ReadAt};
 use sst_blocks::{Block, BlockHandle, BlockType, Error, Header, LoadBlocks, Opened, Slice};
 use std::alloc::{Allocator, Global};
@@ -122,10 +123,10 @@ impl<'a, R: ReadAt, A: Allocator + Clone> FileBlocks<'a, R, A> {
         {
             return Err(Error::Truncated);
         }
-        let mut bytes = vec![in self.alloc.clone()?; 0; handle.size() as usize]?;
-        match self.file.read_exact_at(&mut bytes, handle.offset().0) {
-            Ok(()) => Ok(Slice::from_vec(bytes)?),
-            Err(error) => {
+        match read_slice(self.file, self.alloc, handle.offset().0, size) {
+            Ok(part) => Ok(part),
+            Err(FileError::Table(error)) => Err(error),
+            Err(FileError::Io(error)) => {
                 self.failure = Some(error);
                 Err(Error::OutOfMemory)
             }

@@ -115,7 +115,7 @@ fn load_kept<R: ReadAt, A: Allocator + Clone>(
         (spec.load_result body handle.now.offset handle.now.size kind) }
     ensures kind { IfOk result (λ b. b.kind ≡ kind) }
     ensures kept { spec.IsKnown R.reads → spec.KeepsOf (spec.body_of source.old.0) kept.new }
-    ensures bytes { source.new.0 ≡ source.old.0 }
+    ensures body { spec.body_of source.new.0 ≡ spec.body_of source.old.0 }
     ensures opened { source.new.1 ≡ spec.with_load kind source.old.1 }
 {
     if let Some(block) = kept_at(kept, handle, kind) {

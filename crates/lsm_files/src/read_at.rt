@@ -1,8 +1,9 @@
 //! Bytes that are read at an offset.
-ghost use Rattle.std.specs.Prelude.{◌≡◌, ◌+◌, ◌<◌, length, IfSome, None, OnErr, OnOk};
+ghost use Rattle.std.specs.Prelude.{◌≡◌, ◌+◌, ◌<◌, length, IfErr, IfOk, IfSome, None, OnErr, OnOk};
 ghost use Rattle.lsm_files.specs.Words as spec;
 
-use sst_blocks::Slice;
+use crate::FileError;
+use sst_blocks::{Error, Slice};
 use std::alloc::Allocator;
 use std::fs::File;
 use std::io;
@@ -120,4 +121,30 @@ impl ReadAt for File {
     fn read_exact_at(&self, buf: &mut [u8], offset: u64) -> io::Result<()> {
         FileExt::read_exact_at(self, buf, offset)
     }
+}
+
+/// A vector of zeros. Fails with [`Error::OutOfMemory`] only.
+fn zeros<A: Allocator + Clone>(alloc: &A, len: usize) -> Result<Vec<u8, A>, Error>
+    ensures len { IfOk result (λ zeros. length zeros.items ≡ len) }
+    ensures err { IfErr result (λ e. e ≡ spec.OutOfMemory) }
+{
+    Ok(vec![in alloc.clone()?; 0; len]?)
+}
+
+/// Reads some bytes into new memory. Fails if the read does, or if memory runs out.
+pub(crate) fn read_slice<R: ReadAt, A: Allocator + Clone>(
+    file: &R,
+    alloc: &A,
+    at: u64,
+    size: u64,
+) -> Result<Slice<A>, FileError>
+    ensures len { IfOk result (λ part. length part ≡ size) }
+    ensures part { spec.IsKnown R.reads →
+        IfOk result (spec.IsPartAt (R.bytes file.now) at) }
+    ensures err { IfErr result (spec.IsReadError R.reads (length (R.bytes file.now)) (at + size)) }
+{
+    let mut bytes = zeros(alloc, size as usize)?;
+    file.read_exact_at(&mut bytes, at)?;
+    let part = Slice::from_vec(bytes)?;
+    Ok(part)
 }
