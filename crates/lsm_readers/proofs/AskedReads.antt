@@ -16,7 +16,8 @@ use Rattle.sst_blocks.specs.Opened.{with_load}
 use Rattle.sst_blocks.specs.Place.{Place}
 use Rattle.lsm_readers.specs.point.Answer.{lifted, match_at}
 use Rattle.lsm_readers.specs.point.Read.{◌>>=◌, DoesRead, block_read, read_map}
-use Rattle.lsm_readers.proofs.Points.{point_below}
+use Rattle.sst_blocks.proofs.Points.{point_below}
+use Rattle.sst_blocks.specs.Access.{Access, IsInMemory}
 use Rattle.lsm_readers.proofs.ReadLaws.{one_load, refusal, result}
 use Rattle.lsm_readers.proofs.Recovered.{first_from}
 use Rattle.lsm_readers.proofs.Steps.{passes_fault}
@@ -27,12 +28,12 @@ mapped f (Ok x) = refl
 mapped f (Err e) = refl
 
 -- a call that answers what is asked of a block reads it
-pub asked : {X : Type 0} (f : Loaded → X) (body : List ℕ) (place : Place) (kind : BlockType)
-    (o o' : Opened) (r : Result X Error) → o' ≡ with_load kind o
+pub asked : {X : Type 0} (access : Access) (f : Loaded → X) (body : List ℕ) (place : Place)
+    (kind : BlockType) (o o' : Opened) (r : Result X Error) → o' ≡ with_load kind o
     → Gives (λ (x : X). x) r (result_map f (load_result body place.offset place.size kind))
-    → FaultsFirst r (place_fault body place.offset place.size kind)
-    → DoesRead r (read_map f (block_read body place kind)) o o'
-asked {X} f body place kind o o' r counted returned first = record {
+    → (IsInMemory access → FaultsFirst r (place_fault body place.offset place.size kind))
+    → DoesRead access r (read_map f (block_read body place kind)) o o'
+asked {X} access f body place kind o o' r counted returned first = record {
   returned = subst (λ (t : Result X Error). Gives (λ (x : X). x) r t)
       (mapped f (load_result body place.offset place.size kind)) returned;
   early = first;
@@ -60,28 +61,30 @@ map_goes : {X Y Z : Type 0} (f : X → Y) (h : Y → Z) (returned : Result X Err
 map_goes {Y = Y} f h (Ok x) y is = let same : f x ≡ y = cc in ap (λ (z : Y). result (h z)) same
 map_goes f h (Err e) y is = absurd cc
 
-module _ (body : List ℕ) (g : ℕ) (key : List ℕ) (n : ℕ) (place : Place) (o o' : Opened)
-    (counted : o' ≡ with_load Data o) where
+module _ (access : Access) (body : List ℕ) (g : ℕ) (key : List ℕ) (n : ℕ) (place : Place)
+    (o o' : Opened) (counted : o' ≡ with_load Data o) where
   abbrev lifted_point : Loaded → Option Entry
   lifted_point b = option_map (lifted g) (point_of key n b)
 
   pub match_fails : (e : Error) (r : Result (Option Entry) Error) → IsErrAnd r (λ y. y ≡ e)
       → Fails e (result_map (point_of key n) (load_result body place.offset place.size Data))
-      → FaultsFirst (refusal (Option Entry) e) (place_fault body place.offset place.size Data)
-      → DoesRead r (match_at body g key n place) o o'
+      → (IsInMemory access → FaultsFirst (refusal (Option Entry) e)
+      (place_fault body place.offset place.size Data))
+      → DoesRead access r (match_at body g key n place) o o'
   match_fails e r is fails first =
       let returned = load_result body place.offset place.size Data in
-      asked lifted_point body place Data o o' r counted
+      asked access lifted_point body place Data o o' r counted
       (passes_fault (λ (x : Option Entry). x) r (result_map lifted_point returned) e is
       (λ memory. map_fails (point_of key n) lifted_point returned e (fails memory)))
-      (first_from r e (place_fault body place.offset place.size Data) is first)
+      (λ at. first_from r e (place_fault body place.offset place.size Data) is (first at))
 
   pub match_goes : (found : Option Entry) → result_map (point_of key n)
       (load_result body place.offset place.size Data) ≡ Ok found
-      → FaultsFirst (result found) (place_fault body place.offset place.size Data)
-      → DoesRead (result (option_map (lifted g) found)) (match_at body g key n place) o o'
+      → (IsInMemory access → FaultsFirst (result found)
+      (place_fault body place.offset place.size Data))
+      → DoesRead access (result (option_map (lifted g) found)) (match_at body g key n place) o o'
   match_goes found is first =
-      asked lifted_point body place Data o o' (result (option_map (lifted g) found)) counted
+      asked access lifted_point body place Data o o' (result (option_map (lifted g) found)) counted
       (map_goes (point_of key n) (option_map (lifted g))
       (load_result body place.offset place.size Data) found is)
       first
@@ -94,3 +97,9 @@ lift_fits returned key bound add None fits is = tt
 lift_fits returned key bound add (Some e) fits is =
     let below : e.seqno < bound = match_below returned key bound e is in
     omega (arith, below, fits)
+
+-- one that is visible fits with a number that fits with the bound
+pub visible_fits : (found : Option Entry) (bound add : ℕ) → bound + add < 2 ^ 64
+    → IfSome found (λ e. e.seqno < bound) → IfSome found (λ e. e.seqno + add < 2 ^ 64)
+visible_fits None bound add fits below = tt
+visible_fits (Some e) bound add fits below = omega (arith, below, fits)

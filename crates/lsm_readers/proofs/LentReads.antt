@@ -10,6 +10,7 @@ use Rattle.sst_entries.specs.Error.{FaultsFirst, Gives}
 use Rattle.sst_entries.specs.Lending.{entry_of_ref}
 use Rattle.sst_blocks.specs.declared.entry_place.EntryPlace.{EntryPlace}
 use Rattle.sst_blocks.specs.declared.opened.Opened.{Opened}
+use Rattle.sst_blocks.specs.Access.{in_memory}
 use Rattle.sst_blocks.specs.Asked.{result_map}
 use Rattle.sst_blocks.specs.EntryPlace.{IsPlacedIn, entry_placed, placed_in}
 use Rattle.lsm_readers.specs.point.Read.{DoesRead, Opens, Read}
@@ -39,7 +40,7 @@ module _ (bytes : List ℕ) (found : Result (Option EntryPlace) Error)
   pub lent_does : (read : Read (Option Entry)) (o o' : Opened)
       → Gives (option_map (entry_placed bytes)) found read.returned → FaultsFirst found read.early
       → Opens found read.loads o o' → (read.loads ≡ [] → IsOk found)
-      → DoesRead (result_map (option_map entry_of_ref) lent) read o o'
+      → DoesRead in_memory (result_map (option_map entry_of_ref) lent) read o o'
   lent_does read o o' returned first opens calm =
-      subst (λ (r : Result (Option Entry) Error). DoesRead r read o o') (sym same)
-      (does_by (option_map (entry_placed bytes)) found read o o' returned first opens calm)
+      subst (λ (r : Result (Option Entry) Error). DoesRead in_memory r read o o') (sym same)
+      (does_by (option_map (entry_placed bytes)) in_memory found read o o' returned first opens calm)

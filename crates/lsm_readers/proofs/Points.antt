@@ -1,15 +1,11 @@
--- What a first match passes, and what a point read comes to.
-use Rattle.std.proofs.Common.{◌≡◌, ℕ, ◌-◌, ◌<◌, Bool, true, false, cond, ltb, List, [], ◌∷◌, Option}
-use Rattle.std.proofs.Common.{Some, None, refl, sym, ap, subst, ◌∙◌}
-use Rattle.std.specs.Prelude.{find, Result}
+-- What a point read comes to.
+use Rattle.std.proofs.Common.{◌≡◌, ℕ, ◌-◌, List, Option, Some, None, refl, sym, ap, subst, ◌∙◌}
+use Rattle.std.specs.Prelude.{Result}
 use Rattle.std.specs.Result.{IsErrAnd}
-use Rattle.std.proofs.lemmas.Bool.{ltb-true}
 use Rattle.sst_entries.specs.declared.error.Error.{Error}
 use Rattle.sst_entries.specs.Entry.{Entry}
-use Rattle.sst_entries.specs.Key.{same_key}
-use Rattle.sst_entries.specs.Point.{is_hit, point}
-use Rattle.sst_entries.proofs.Booleans.{and_right}
 use Rattle.sst_blocks.specs.declared.opened.Opened.{Opened}
+use Rattle.sst_blocks.specs.Access.{Access, in_memory}
 use Rattle.sst_blocks.specs.Opened.{none_opened}
 use Rattle.sst_blocks.specs.Place.{Place}
 use Rattle.sst_blocks.specs.Sections.{body_of}
@@ -20,22 +16,6 @@ use Rattle.lsm_readers.specs.point.Parts.{Parts}
 use Rattle.lsm_readers.specs.point.Read.{DoesRead, Read, read_then}
 use Rattle.lsm_readers.specs.point.Table.{OpenTable, parts_of, table_of}
 use Rattle.lsm_readers.proofs.ReadLaws.{does_known, refusal, result, then_fails, then_goes}
-
-passes_by : {X : Type 0} (p : X → Bool) (x y : X) (o : Option X) (b : Bool) → p x ≡ b
-    → (o ≡ Some y → p y ≡ true) → cond b (Some x) o ≡ Some y → p y ≡ true
-passes_by p x y o true e rest h = let same : x ≡ y = cc in subst (λ z. p z ≡ true) same e
-passes_by p x y o false e rest h = rest h
-
-pub find_passes : {X : Type 0} (p : X → Bool) (xs : List X) (y : X) → find p xs ≡ Some y
-    → p y ≡ true
-find_passes p [] y h = absurd cc
-find_passes p (x ∷ xs) y h = passes_by p x y (find p xs) (p x) refl (find_passes p xs y) h
-
-pub point_below : (es : List Entry) (key : List ℕ) (bound : ℕ) (e : Entry)
-    → point es key bound ≡ Some e → e.seqno < bound
-unfolding point
-point_below es key bound e h = ltb-true _ _ (and_right (same_key e.user_key key) (ltb e.seqno bound)
-    (find_passes (is_hit key bound) es e h))
 
 -- a point read of an opened table is one of its bytes and of what it was recovered to
 pub table_read : {A : Type 0} (source bytes : List ℕ) (inner : Inner A) (t : OpenTable)
@@ -48,7 +28,7 @@ table_read source bytes inner t key bound is same =
 
 -- ---- a point read by its stored bound
 
-module _ (body : List ℕ) (g : ℕ) (parts : Parts) (key : List ℕ) (bound n : ℕ)
+module _ (access : Access) (body : List ℕ) (g : ℕ) (parts : Parts) (key : List ℕ) (bound n : ℕ)
     (lowered : n ≡ bound - g) (s : Result (Option Entry) Error) where
   lowest : read_then (admitted_handle body parts key n) (match_in body g key n)
       ≡ answer body g parts key bound
@@ -56,46 +36,46 @@ module _ (body : List ℕ) (g : ℕ) (parts : Parts) (key : List ℕ) (bound n :
   lowest = ap (λ (k : ℕ). read_then (admitted_handle body parts key k) (match_in body g key k))
       lowered
 
-  by_answer : (o o' : Opened) → DoesRead s (read_then (admitted_handle body parts key n)
-      (match_in body g key n)) o o' → DoesRead s (answer body g parts key bound) o o'
-  by_answer o o' does = subst (λ (r : Read (Option Entry)). DoesRead s r o o') lowest does
+  by_answer : (o o' : Opened) → DoesRead access s (read_then (admitted_handle body parts key n)
+      (match_in body g key n)) o o' → DoesRead access s (answer body g parts key bound) o o'
+  by_answer o o' does = subst (λ (r : Read (Option Entry)). DoesRead access s r o o') lowest does
 
   -- no handle could be read
   pub answer_fails : (e : Error) (o o' : Opened)
-      → DoesRead (refusal (Option Place) e) (admitted_handle body parts key n) o o'
-      → IsErrAnd s (λ y. y ≡ e) → DoesRead s (answer body g parts key bound) o o'
-  answer_fails e o o' does is = by_answer o o' (then_fails (admitted_handle body parts key n)
+      → DoesRead access (refusal (Option Place) e) (admitted_handle body parts key n) o o'
+      → IsErrAnd s (λ y. y ≡ e) → DoesRead access s (answer body g parts key bound) o o'
+  answer_fails e o o' does is = by_answer o o' (then_fails access (admitted_handle body parts key n)
       (match_in body g key n) e s o o' does is)
 
   -- there was one
   pub answer_at : (place : Place) (mid : List ℕ) (o o' o'' : Opened)
-      → DoesRead (result (Some place)) (admitted_handle body parts key n) o o' → mid ≡ body
-      → DoesRead s (match_at mid g key n place) o' o''
-      → DoesRead s (answer body g parts key bound) o o''
+      → DoesRead access (result (Some place)) (admitted_handle body parts key n) o o' → mid ≡ body
+      → DoesRead access s (match_at mid g key n place) o' o''
+      → DoesRead access s (answer body g parts key bound) o o''
   answer_at place mid o o' o'' does same read =
-      by_answer o o'' (then_goes (admitted_handle body parts key n) (match_in body g key n)
-      (Some place) s o o' o'' does (subst (λ (b : List ℕ). DoesRead s
+      by_answer o o'' (then_goes access (admitted_handle body parts key n) (match_in body g key n)
+      (Some place) s o o' o'' does (subst (λ (b : List ℕ). DoesRead access s
       (match_at b g key n place) o' o'') same read))
 
 -- there was none
-pub answer_none : (body : List ℕ) (g : ℕ) (parts : Parts) (key : List ℕ) (bound n : ℕ)
-    → n ≡ bound - g → (o o' : Opened) → DoesRead (result None)
-    (admitted_handle body parts key n) o o' → DoesRead (result None)
+pub answer_none : (access : Access) (body : List ℕ) (g : ℕ) (parts : Parts) (key : List ℕ)
+    (bound n : ℕ) → n ≡ bound - g → (o o' : Opened) → DoesRead access (result None)
+    (admitted_handle body parts key n) o o' → DoesRead access (result None)
     (answer body g parts key bound) o o'
-answer_none body g parts key bound n lowered o o' does =
-    by_answer body g parts key bound n lowered (result None) o o'
-    (then_goes (admitted_handle body parts key n) (match_in body g key n) None
-    (result None) o o' o' does (does_known None o'))
+answer_none access body g parts key bound n lowered o o' does =
+    by_answer access body g parts key bound n lowered (result None) o o'
+    (then_goes access (admitted_handle body parts key n) (match_in body g key n) None
+    (result None) o o' o' does (does_known access None o'))
 
 -- the handle was read by a source of its own, which counted nothing before
 pub handle_begun : (bytes source : List ℕ) (parts : Parts) (key : List ℕ) (n : ℕ)
     (h returned : Result (Option Place) Error) (start new end : Opened) → source ≡ bytes
     → start ≡ none_opened → end ≡ new → h ≡ returned
-    → DoesRead h (admitted_handle (body_of source) parts key n) start new
-    → DoesRead returned (admitted_handle (body_of bytes) parts key n) none_opened end
+    → DoesRead in_memory h (admitted_handle (body_of source) parts key n) start new
+    → DoesRead in_memory returned (admitted_handle (body_of bytes) parts key n) none_opened end
 handle_begun bytes source parts key n h returned start new end same none counts is does =
     let read = λ (b : List ℕ). admitted_handle (body_of b) parts key n in
-    let here = subst (λ (b : List ℕ). DoesRead h (read b) start new) same does in
-    let begun = subst (λ (o : Opened). DoesRead h (read bytes) o new) none here in
-    let ended = subst (λ (o : Opened). DoesRead h (read bytes) none_opened o) (sym counts) begun in
-    subst (λ (r : Result (Option Place) Error). DoesRead r (read bytes) none_opened end) is ended
+    let here = subst (λ (b : List ℕ). DoesRead in_memory h (read b) start new) same does in
+    let begun = subst (λ (o : Opened). DoesRead in_memory h (read bytes) o new) none here in
+    let ended = subst (λ (o : Opened). DoesRead in_memory h (read bytes) none_opened o) (sym counts) begun in
+    subst (λ (r : Result (Option Place) Error). DoesRead in_memory r (read bytes) none_opened end) is ended

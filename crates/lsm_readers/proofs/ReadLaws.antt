@@ -10,6 +10,7 @@ use Rattle.sst_entries.specs.declared.error.Error.{Error}
 use Rattle.sst_entries.specs.Error.{FaultsFirst, Gives, is_memory}
 use Rattle.sst_blocks.specs.declared.block_type.BlockType.{BlockType}
 use Rattle.sst_blocks.specs.declared.opened.Opened.{Opened}
+use Rattle.sst_blocks.specs.Access.{Access, IsInMemory, IsKnown, in_memory, read_on_load, unknown}
 use Rattle.sst_blocks.specs.Opened.{with_load}
 use Rattle.lsm_readers.specs.point.Read.{◌>>=◌, DoesRead, Opens, Read, early_then, early_of, known}
 use Rattle.lsm_readers.specs.point.Read.{loads_behind, opened_by, read_then, wants_memory}
@@ -21,6 +22,12 @@ result x = Ok x
 
 abbrev pub refusal : (X : Type 0) → Error → Result X Error
 refusal X e = Err e
+
+-- bytes in memory are known
+pub memory_known : (a : Access) → IsInMemory a → IsKnown a
+memory_known in_memory at = tt
+memory_known read_on_load at = tt
+memory_known unknown at = at
 
 -- ---- loads
 
@@ -52,10 +59,11 @@ opened_more (k ∷ ks) ls o = opened_more ks ls (with_load k o)
 
 -- ---- a value that is known, and one load
 
-pub does_known : {X : Type 0} (x : X) (o : Opened) → DoesRead (Ok x) (known x) o o
-does_known x o = record {
+pub does_known : {X : Type 0} (access : Access) (x : X) (o : Opened)
+    → DoesRead access (Ok x) (known x) o o
+does_known access x o = record {
   returned = refl;
-  early = λ e h. absurd cc;
+  early = λ at e h. absurd cc;
   opens = no_loads (Ok x) o;
   calm =
       λ _. refl;
@@ -107,10 +115,10 @@ opens_goes x s ks ls o o' o'' a b =
     }
 
 -- the first gave a value
-pub then_goes : {X Y : Type 0} (first : Read X) (next : X → Read Y) (x : X) (s : Result Y Error)
-    (o o' o'' : Opened) → DoesRead (result x) first o o' → DoesRead s (next x) o' o''
-    → DoesRead s (read_then first next) o o''
-then_goes {X} {Y} first next x s o o' o'' a b =
+pub then_goes : {X Y : Type 0} (access : Access) (first : Read X) (next : X → Read Y) (x : X)
+    (s : Result Y Error) (o o' o'' : Opened) → DoesRead access (result x) first o o'
+    → DoesRead access s (next x) o' o'' → DoesRead access s (read_then first next) o o''
+then_goes {X} {Y} access first next x s o o' o'' a b =
     let returned : first.returned ≡ Ok x = a.returned in
     let loads : loads_behind first.returned next ≡ (next x).loads =
     ap (λ (t : Result X Error). loads_behind t next) returned in
@@ -119,8 +127,8 @@ then_goes {X} {Y} first next x s o o' o'' a b =
     record {
       returned = subst (λ (t : Result X Error). Gives (λ (y : Y). y) s (t >>= λ x. (next x).returned))
           (sym returned) b.returned;
-      early = early_goes x s first.loads first.early (early_then first.returned next) a.early
-          (subst (FaultsFirst s) (sym early) b.early);
+      early = λ at. early_goes x s first.loads first.early (early_then first.returned next)
+          (a.early at) (subst (FaultsFirst s) (sym early) (b.early at));
       opens = opens_goes x s first.loads (loads_behind first.returned next) o o' o'' a.opens
           (subst (λ (l : List BlockType). Opens s l o' o'') (sym loads) b.opens);
       calm = calm_front s first.loads (loads_behind first.returned next)
@@ -167,17 +175,17 @@ opens_fails X e s ks ls o o' is some none a =
     }
 
 -- the first was refused
-pub then_fails : {X Y : Type 0} (first : Read X) (next : X → Read Y) (e : Error)
-    (s : Result Y Error) (o o' : Opened) → DoesRead (refusal X e) first o o'
-    → IsErrAnd s (λ y. y ≡ e) → DoesRead s (read_then first next) o o'
-then_fails {X} {Y} first next e s o o' a is =
+pub then_fails : {X Y : Type 0} (access : Access) (first : Read X) (next : X → Read Y) (e : Error)
+    (s : Result Y Error) (o o' : Opened) → DoesRead access (refusal X e) first o o'
+    → IsErrAnd s (λ y. y ≡ e) → DoesRead access s (read_then first next) o o'
+then_fails {X} {Y} access first next e s o o' a is =
     let some = some_loads X e first.loads a.calm in
     let ls = loads_behind first.returned next in
     record {
       returned = passes_fault (λ (y : Y). y) s (first.returned >>= λ x. (next x).returned) e is
           (fails_here first.returned (λ x. (next x).returned) e a.returned);
-      early = early_fails X e s first.loads first.early
-          (early_then first.returned next) some is a.early;
+      early = λ at. early_fails X e s first.loads first.early
+          (early_then first.returned next) some is (a.early at);
       opens = opens_fails X e s first.loads ls o o' is some
           (λ memory. behind_fails first.returned next e (a.returned memory)) a.opens;
       calm = λ none. absurd (let sum = length-append first.loads ls in

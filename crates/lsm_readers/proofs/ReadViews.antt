@@ -7,6 +7,7 @@ use Rattle.sst_entries.specs.declared.error.Error.{Error}
 use Rattle.sst_entries.specs.Error.{FaultsFirst, Gives, Refuses}
 use Rattle.sst_blocks.specs.declared.block_type.BlockType.{BlockType}
 use Rattle.sst_blocks.specs.declared.opened.Opened.{Opened}
+use Rattle.sst_blocks.specs.Access.{Access}
 use Rattle.sst_blocks.specs.Asked.{result_map}
 use Rattle.lsm_readers.specs.point.Read.{DoesRead, Opens, Read, wants_memory}
 
@@ -87,12 +88,13 @@ module _ {X Y : Type 0} (f : X → Y) where
   }
 
   -- a call that answers what the view of its value says does the read, seen by the view
-  pub does_by : (r : Result X Error) (read : Read Y) (o o' : Opened) → Gives f r read.returned
+  pub does_by : (access : Access) (r : Result X Error) (read : Read Y) (o o' : Opened)
+      → Gives f r read.returned
       → FaultsFirst r read.early → Opens r read.loads o o' → (read.loads ≡ [] → IsOk r)
-      → DoesRead (result_map f r) read o o'
-  does_by r read o o' returned first opens calm = record {
+      → DoesRead access (result_map f r) read o o'
+  does_by access r read o o' returned first opens calm = record {
     returned = gives_by r read.returned returned;
-    early = first_by r read.early first;
+    early = λ _. first_by r read.early first;
     opens = opens_by r read.loads o o' opens;
     calm = λ none. ok_by r (calm none);
   }

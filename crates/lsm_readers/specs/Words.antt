@@ -3,8 +3,10 @@ pub use Rattle.sst_entries.specs.Entry.{Entry}
 pub use Rattle.sst_entries.specs.Error.{Faults, FaultsFirst, Gives}
 pub use Rattle.sst_entries.specs.Point.{point, within}
 pub use Rattle.sst_entries.specs.Stream.{CanYield, YieldsExactly, answer_stops, front_of, nowhere}
+pub use Rattle.sst_blocks.specs.Access.{IsInMemory, IsKnown, in_memory}
 pub use Rattle.sst_blocks.specs.filter.KeyHash.{hash_of}
-pub use Rattle.sst_blocks.specs.Sections.{body_of}
+pub use Rattle.sst_blocks.specs.Sections.{body_of, section_names}
+unfoldable pub use Rattle.sst_blocks.specs.Sections.{section_in}
 pub use Rattle.sst_blocks.specs.Block.{Loaded, entries_of, load_at_result, load_result, place_fault}
 pub use Rattle.sst_blocks.specs.Block.{position_fault}
 pub use Rattle.sst_blocks.specs.Handle.{Handle}

@@ -99,6 +99,7 @@ fn lookup_at<S: LoadBlocks>(
     queries: &[Query<S::Alloc>],
     at: usize,
 ) -> Option<Lookup>
+    requires { spec.IsKnown S.access }
     ensures lookup { let parts = spec.parts_of inner.now in
         IfSome result (λ p.
         spec.IsLookup (S.body source.old) inner.now.global_seqno parts queries.now p) }
@@ -121,6 +122,7 @@ fn find_lookups<S: LoadBlocks>(
     order: &[Headed],
     alloc: S::Alloc,
 ) -> Result<Vec<Lookup, S::Alloc>, AllocError>
+    requires { spec.IsKnown S.access }
     ensures lookups { let parts = spec.parts_of inner.now in
         IfOk result (λ lookups.
         spec.All (spec.IsLookup (S.body source.old) inner.now.global_seqno parts queries.now)

@@ -61,14 +61,18 @@ impl<'a, A: Allocator + Clone> Keeping<'a, A> {
 }
 
 impl<A: Allocator + Clone> LoadBlocks for Keeping<'_, A> {
+    ghost use Rattle.sst_blocks.specs.Access.{in_memory};
     ghost use Rattle.sst_blocks.specs.Sections.{body_of};
 
     type Alloc = A;
+
+    ghost access = { in_memory };
 
     ghost body = { λ k. body_of k.0 };
 
     ghost opened = { λ k. k.1 };
 
+    #[tactic(auto, using(sst_blocks::proofs::LoadLemmas::kind_given))]
     fn load(&mut self, handle: &BlockHandle, kind: BlockType) -> Result<Block<A>, Error> {
         self.opened.count(kind);
         match kind {

@@ -6,8 +6,8 @@ use byteorder::{ByteOrder, LittleEndian};
 use lsm_iters::beside;
 use lsm_sorted::KeyRange;
 use sst_blocks::{
-    BlockHandle, BlockSource, BlockType, CompressionType, DataBlock, Error, FILTER_HASH_TYPE,
-    ItemName, Opened, SeqNo, Slice, TableId, Timestamp,
+    BlockHandle, BlockSource, BlockType, CompressionType, Counted, DataBlock, Error,
+    FILTER_HASH_TYPE, ItemName, LoadBlocks, Opened, SeqNo, Slice, TableId, Timestamp,
 };
 use std::alloc::{Allocator, Global};
 use std::marker::Model;
@@ -328,13 +328,28 @@ impl<A: Allocator + Clone> ParsedMeta<A> {
             spec.FaultsFirst result
             (spec.place_fault body handle.now.offset handle.now.size spec.Meta) }
     {
-        let mut opened = Opened::none();
-        let block = source.load(handle, BlockType::Meta, &mut opened)?;
-        let block = DataBlock::new(block);
-        let meta = read_facts(&block);
-        drop(block);
-        meta
+        load_meta(&mut Counted::new(source), handle)
     }
+}
+
+/// Loads the meta block at a handle and parses its items. Fails as [`ParsedMeta::load_with_handle`]
+/// does.
+pub(crate) fn load_meta<S: LoadBlocks>(
+    source: &mut S,
+    handle: &BlockHandle,
+) -> Result<ParsedMeta<S::Alloc>, Error>
+    ensures returned { let facts = spec.meta_result (S.body source.old) handle.now in
+        spec.IsKnown S.access → spec.Gives spec.facts_of result facts }
+    ensures early { let body = S.body source.old in
+        spec.IsInMemory S.access → spec.FaultsFirst result
+        (spec.place_fault body handle.now.offset handle.now.size spec.Meta) }
+    ensures body { S.body source.new ≡ S.body source.old }
+{
+    let block = source.load(handle, BlockType::Meta)?;
+    let block = DataBlock::new(block);
+    let meta = read_facts(&block);
+    drop(block);
+    meta
 }
 
 /// Loads the meta block at `handle`, and returns the value of one of its items.

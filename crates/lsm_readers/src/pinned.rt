@@ -6,7 +6,7 @@ ghost use Rattle.sst_entries.specs.declared.error.Error.TheVariants.{OutOfMemory
 use crate::ParsedRegions;
 use lsm_iters::{BlockIndexImpl, FullBlockIndex, TwoLevelBlockIndex, VolatileBlockIndex, beside};
 use sst_blocks::{
-    BlockHandle, BlockSource, BlockType, Error, Header, IndexBlock, LoadBlocks, Opened, SeqNo,
+    BlockHandle, BlockSource, BlockType, Counted, Error, Header, IndexBlock, LoadBlocks, SeqNo,
 };
 use std::alloc::{Allocator, Global};
 
@@ -36,9 +36,43 @@ pub fn load_handles<A: Allocator + Clone>(
         spec.FaultsFirst result
         (spec.place_fault body handle.now.offset handle.now.size spec.Index) }
 {
-    let mut opened = Opened::none();
-    let block = source.load(handle, BlockType::Index, &mut opened)?;
+    load_handles_in(&mut Counted::new(source), handle)
+}
+
+/// Loads the index block at a handle, and returns its handles. Fails as [`LoadBlocks::load`] does.
+pub(crate) fn load_handles_in<S: LoadBlocks>(
+    source: &mut S,
+    handle: &BlockHandle,
+) -> Result<IndexBlock<S::Alloc>, Error>
+    ensures returned { let handles = spec.handles_result (S.body source.old) handle.now in
+        spec.IsKnown S.access → spec.Gives (λ (handles : List spec.Handle). handles) result handles }
+    ensures early { let body = S.body source.old in
+        spec.IsInMemory S.access → spec.FaultsFirst result
+        (spec.place_fault body handle.now.offset handle.now.size spec.Index) }
+    ensures body { S.body source.new ≡ S.body source.old }
+{
+    let block = source.load(handle, BlockType::Index)?;
     Ok(IndexBlock::new(block))
+}
+
+/// Loads the part of an index that is pinned. Fails as [`LoadBlocks::load`] does.
+pub(crate) fn load_index<S: LoadBlocks>(
+    source: &mut S,
+    regions: &ParsedRegions,
+    pin_index: bool,
+) -> Result<PinnedBlockIndex<S::Alloc>, Error>
+    ensures returned { let index = spec.index_result (S.body source.old) regions.now pin_index in
+        spec.IsKnown S.access → spec.Gives spec.pinned_index_of result index }
+    ensures body { S.body source.new ≡ S.body source.old }
+{
+    if regions.index.is_some() {
+        return Ok(PinnedBlockIndex::TwoLevel(load_handles_in(source, &regions.tli)?));
+    }
+    if !pin_index {
+        return Ok(PinnedBlockIndex::VolatileFull);
+    }
+    let handles = load_handles_in(source, &regions.tli)?;
+    Ok(PinnedBlockIndex::Full(FullBlockIndex::new(handles)))
 }
 
 /// The handle that the index block at `handle` has for a key at a stored seqno.
@@ -49,7 +83,8 @@ fn handle_at<S: LoadBlocks>(
     seqno: SeqNo,
 ) -> Result<Option<BlockHandle>, Error>
     ensures read { let read = spec.handle_in_block (S.body source.old) key.now seqno handle.now in
-        spec.DoesRead result read (S.opened source.old) (S.opened source.new) }
+        spec.IsKnown S.access →
+        spec.DoesRead S.access result read (S.opened source.old) (S.opened source.new) }
     ensures body { S.body source.new ≡ S.body source.old }
 {
     source.find(handle, key, seqno)
@@ -103,14 +138,7 @@ impl<A: Allocator + Clone> PinnedBlockIndex<A> {
         ensures { spec.Gives spec.pinned_index_of result
             (spec.index_result (spec.body_of source.now) regions.now pin_index) }
     {
-        if regions.index.is_some() {
-            return Ok(PinnedBlockIndex::TwoLevel(load_handles(source, &regions.tli)?));
-        }
-        if !pin_index {
-            return Ok(PinnedBlockIndex::VolatileFull);
-        }
-        let handles = load_handles(source, &regions.tli)?;
-        Ok(PinnedBlockIndex::Full(FullBlockIndex::new(handles)))
+        load_index(&mut Counted::new(source), regions, pin_index)
     }
 
     /// Returns the block index over a table's bytes.
@@ -175,7 +203,8 @@ pub(crate) fn handle_by<S: LoadBlocks>(
 ) -> Result<Option<BlockHandle>, Error>
     ensures read { let kept = spec.pinned_index_of index.now in
         let read = spec.handle_by (S.body source.old) kept tli.now key.now seqno in
-        spec.DoesRead result read (S.opened source.old) (S.opened source.new) }
+        spec.IsKnown S.access →
+        spec.DoesRead S.access result read (S.opened source.old) (S.opened source.new) }
     ensures body { S.body source.new ≡ S.body source.old }
 {
     match index {

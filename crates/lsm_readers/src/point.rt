@@ -26,7 +26,8 @@ fn block_admits<S: LoadBlocks>(
     key_hash: u64,
 ) -> Result<bool, Error>
     ensures read { let read = spec.block_admits (S.body source.old) key_hash handle.now in
-        spec.DoesRead result read (S.opened source.old) (S.opened source.new) }
+        spec.IsKnown S.access →
+        spec.DoesRead S.access result read (S.opened source.old) (S.opened source.new) }
     ensures body { S.body source.new ≡ S.body source.old }
 {
     source.maybe_contains_hash(handle, key_hash)
@@ -40,7 +41,8 @@ fn filter_admits<S: LoadBlocks>(
     key_hash: u64,
 ) -> Result<bool, Error>
     ensures read { let read = spec.parts_admit (S.body source.old) (spec.parts_of inner.now) key.now
-        key_hash in spec.DoesRead result read (S.opened source.old) (S.opened source.new) }
+        key_hash in spec.IsKnown S.access →
+        spec.DoesRead S.access result read (S.opened source.old) (S.opened source.new) }
     ensures body { S.body source.new ≡ S.body source.old }
 {
     if let Some(tops) = &inner.pinned_filter_index {
@@ -70,7 +72,8 @@ fn admission<S: LoadBlocks>(
     requires { key_hash ≡ spec.hash_of key.now }
     ensures read { let parts = spec.parts_of inner.now in
         let read = spec.admission (S.body source.old) parts key.now seqno in
-        spec.DoesRead result read (S.opened source.old) (S.opened source.new) }
+        spec.IsKnown S.access →
+        spec.DoesRead S.access result read (S.opened source.old) (S.opened source.new) }
     ensures body { S.body source.new ≡ S.body source.old }
 {
     if seqno <= inner.metadata.seqnos.0 {
@@ -90,7 +93,8 @@ pub(crate) fn admitted_handle<S: LoadBlocks>(
     requires { key_hash ≡ spec.hash_of key.now }
     ensures read { let parts = spec.parts_of inner.now in
         let read = spec.admitted_handle (S.body source.old) parts key.now seqno in
-        spec.DoesRead result read (S.opened source.old) (S.opened source.new) }
+        spec.IsKnown S.access →
+        spec.DoesRead S.access result read (S.opened source.old) (S.opened source.new) }
     ensures body { S.body source.new ≡ S.body source.old }
 {
     if admission(source, inner, key, seqno, key_hash)? {
@@ -125,7 +129,8 @@ pub(crate) fn read_in<S: LoadBlocks>(
 ) -> Result<Option<InternalValue<S::Alloc>>, Error>
     requires { seqno + global_seqno < 2 ^ 64 }
     ensures read { let read = spec.match_at (S.body source.old) global_seqno key.now seqno handle in
-        spec.DoesRead result read (S.opened source.old) (S.opened source.new) }
+        spec.IsKnown S.access →
+        spec.DoesRead S.access result read (S.opened source.old) (S.opened source.new) }
     ensures body { S.body source.new ≡ S.body source.old }
 {
     let found = source.point_read(&handle, key, seqno)?;
@@ -153,23 +158,26 @@ pub fn point_in<S: LoadBlocks>(
     requires { key_hash ≡ spec.hash_of key.now }
     ensures returned { let parts = spec.parts_of inner.now in
         let read = spec.answer (S.body source.old) inner.now.global_seqno parts key.now seqno in
+        spec.IsKnown S.access →
         spec.Gives (λ (found : Option spec.Entry). found) result read.returned }
-    // A fault that is found before any allocation takes precedence over `OutOfMemory`.
+    // If the bytes are in memory, a fault that is found before any allocation takes precedence over
+    // `OutOfMemory`.
     ensures early { let parts = spec.parts_of inner.now in
         let read = spec.answer (S.body source.old) inner.now.global_seqno parts key.now seqno in
-        spec.FaultsFirst result read.early }
+        spec.IsInMemory S.access → spec.FaultsFirst result read.early }
     // Without a load it does not fail: memory is allocated only for a block.
     ensures calm { let parts = spec.parts_of inner.now in
         let read = spec.answer (S.body source.old) inner.now.global_seqno parts key.now seqno in
-        read.loads ≡ [] → IsOk result }
+        spec.IsKnown S.access → read.loads ≡ [] → IsOk result }
     ensures body { S.body source.new ≡ S.body source.old }
     // It makes the loads of the read, and no others.
     ensures opened { let parts = spec.parts_of inner.now in
         let read = spec.answer (S.body source.old) inner.now.global_seqno parts key.now seqno in
+        spec.IsKnown S.access →
         spec.Opens result read.loads (S.opened source.old) (S.opened source.new) }
     // These are few, also if an allocation fails.
-    ensures few { spec.LoadsFew (spec.parts_of inner.now) (S.opened source.old)
-        (S.opened source.new) }
+    ensures few { spec.IsKnown S.access → spec.LoadsFew (spec.parts_of inner.now)
+        (S.opened source.old) (S.opened source.new) }
 {
     let low = seqno.saturating_sub(inner.global_seqno);
     match admitted_handle(source, inner, key, low, key_hash)? {
@@ -215,8 +223,8 @@ pub(crate) fn place_at<A: Allocator + Clone>(
     opened: &mut Opened,
 ) -> Result<Option<EntryPlace>, Error>
     requires { seqno + global_seqno < 2 ^ 64 }
-    ensures read { spec.DoesRead (spec.placed_entry source.now result) (spec.match_at (spec.body_of
-        source.now) global_seqno key.now seqno handle.now) opened.old opened.new }
+    ensures read { spec.DoesRead spec.in_memory (spec.placed_entry source.now result) (spec.match_at
+        (spec.body_of source.now) global_seqno key.now seqno handle.now) opened.old opened.new }
     ensures placed { IfOk result (λ found. IfSome found (spec.IsPlacedIn source.now)) }
 {
     let found = source.point_place(handle, key, seqno, opened)?;
@@ -232,8 +240,9 @@ fn read_place<A: Allocator + Clone>(
     key_hash: u64,
 ) -> (Result<Option<EntryPlace>, Error>, Opened)
     requires { key_hash ≡ spec.hash_of key.now }
-    ensures read { spec.DoesRead (spec.placed_entry source.now result.0) (spec.table_answer
-        (spec.table_of source.now inner.now) key.now seqno) spec.none_opened result.1 }
+    ensures read { spec.DoesRead spec.in_memory (spec.placed_entry source.now result.0)
+        (spec.table_answer (spec.table_of source.now inner.now) key.now seqno) spec.none_opened
+        result.1 }
     ensures placed { IfOk result.0 (λ found. IfSome found (spec.IsPlacedIn source.now)) }
 {
     let add = inner.global_seqno;

@@ -13,16 +13,14 @@ mod range;
 mod verification;
 mod verify;
 
-use crate::{
-    Inner, ParsedMeta, ParsedRegions, PinnedBlockIndex, PinnedBlocks, Scanner, load_handles,
-    point_in,
-};
+use crate::recover::filter_to_pin;
+use crate::{Inner, ParsedRegions, Scanner, point_in, recover_in};
 use lsm_iters::{BlockIndexImpl, beside};
 use lsm_sorted::{KeyRange, Ranged};
 pub use queries::{get_many, get_many_places};
 use sst_blocks::{
-    BlockHandle, BlockSource, BlockType, Builder, Checksum, Counted, Error, FilterBlock,
-    IndexBlock, InternalValue, Lending, Opened, SeqNo, Slice, TableId, TreeId,
+    BlockSource, BlockType, Builder, Checksum, Counted, Error, InternalValue, Lending, Opened,
+    SeqNo, Slice, TableId, Toc, TreeId,
 };
 use std::alloc::{AllocError, Allocator, Global};
 use std::fmt;
@@ -111,116 +109,24 @@ impl<A: Allocator> fmt::Debug for Table<A> {
     }
 }
 
-/// Loads the top level of a filter, if it has one. Fails as [`BlockSource::load`] does.
-fn load_filter_index<A: Allocator + Clone>(
-    source: &BlockSource<A>,
-    handle: Option<BlockHandle>,
-) -> Result<Option<IndexBlock<A>>, Error>
-    ensures { spec.Gives (λ (tops : Option (List spec.Handle)). tops) result
-        (spec.tops_result (spec.body_of source.now) handle) }
-{
-    match handle {
-        None => Ok(None),
-        Some(handle) => Ok(Some(load_handles(source, &handle)?)),
-    }
-}
-
-/// Loads the filter block at a handle, if there is one. Fails as [`BlockSource::load`] does.
-fn load_filter<A: Allocator + Clone>(
-    source: &BlockSource<A>,
-    handle: Option<BlockHandle>,
-) -> Result<Option<FilterBlock<A>>, Error>
-    ensures { spec.Gives (λ (filter : Option spec.BloomFilter). filter) result
-        (spec.filter_result (spec.body_of source.now) handle) }
-{
-    let Some(handle) = handle else {
-        return Ok(None);
-    };
-    let mut opened = Opened::none();
-    let block = source.load(&handle, BlockType::Filter, &mut opened)?;
-    Ok(Some(FilterBlock::new(block)))
-}
-
-/// The handle of the filter block to pin: that of a full filter, if `pin_filter` is set.
-fn filter_to_pin(regions: &ParsedRegions, pin_filter: bool) -> Option<BlockHandle>
-    ensures { result ≡ spec.pinned_filter regions.now pin_filter }
-{
-    if pin_filter && regions.filter_tli.is_none() {
-        regions.filter
-    } else {
-        None
-    }
-}
-
-/// Loads the blocks to pin. Fails with the first fault of the index, the filter's top level and the
-/// full filter's block, in this order.
-fn load_pinned<A: Allocator + Clone>(
-    source: &BlockSource<A>,
-    regions: &ParsedRegions,
-    pin_filter: bool,
-    pin_index: bool,
-) -> Result<PinnedBlocks<A>, Error>
-    ensures { spec.Gives spec.pinned_of result
-        (spec.pinned_result (spec.body_of source.now) regions.now pin_filter pin_index) }
-{
-    let index = PinnedBlockIndex::load(source, regions, pin_index)?;
-    let (index, filter_index) = beside(index, load_filter_index(source, regions.filter_tli))?;
-    let pinned = filter_to_pin(regions, pin_filter);
-    let (tops, filter_block) = beside((index, filter_index), load_filter(source, pinned))?;
-    let (index, filter_index) = tops;
-    Ok(PinnedBlocks {
-        index,
-        filter_index,
-        filter_block,
-    })
-}
-
-/// Fails with [`Error::GlobalSeqNoTooLarge`] if the highest seqno plus the global seqno exceeds
-/// `u64::MAX`.
-fn test_number<A: Allocator>(metadata: &ParsedMeta<A>, global_seqno: SeqNo) -> Result<(), Error>
-    ensures returned { let facts = spec.facts_of metadata.now in
-        spec.Gives (λ (_ : _). facts) result (spec.facts_fitting facts global_seqno) }
-    ensures alone { IfErr result (λ e. e ≡ spec.GlobalSeqNoTooLarge) }
-{
-    match metadata.seqnos.1.checked_add(global_seqno) {
-        Some(_) => Ok(()),
-        None => Err(Error::GlobalSeqNoTooLarge),
-    }
-}
-
-/// Loads and parses the meta block. Fails as [`ParsedMeta::load_with_handle`] does, then if the
-/// global seqno does not fit.
-fn fitting_metadata<A: Allocator + Clone>(
-    source: &BlockSource<A>,
-    handle: &BlockHandle,
-    global_seqno: SeqNo,
-) -> Result<ParsedMeta<A>, Error>
-    ensures returned { let facts = spec.fitting_result (spec.body_of source.now) handle.now
-        global_seqno in spec.Gives spec.facts_of result facts }
-    ensures early { let body = spec.body_of source.now in
-        spec.FaultsFirst result
-        (spec.place_fault body handle.now.offset handle.now.size spec.Meta) }
-{
-    let metadata = ParsedMeta::load_with_handle(source, handle)?;
-    let fits = test_number(&metadata, global_seqno);
-    fits.and(Ok(metadata))
-}
-
 /// Compares the checksums of the pinned index and filter blocks in one loop, if there are both. The
 /// results of loading them do not change.
 fn compare_pinned<A: Allocator + Clone>(
     source: &BlockSource<A>,
-    regions: &ParsedRegions,
+    toc: &Toc,
     pin_filter: bool,
     pin_index: bool,
 ) {
+    let Ok(regions) = ParsedRegions::parse_from_toc(toc) else {
+        return;
+    };
     if regions.index.is_none() && !pin_index {
         return;
     }
     let index = (regions.tli, BlockType::Index);
     if let Some(tops) = regions.filter_tli {
         source.compare_together(&[index, (tops, BlockType::Index)]);
-    } else if let Some(filter) = filter_to_pin(regions, pin_filter) {
+    } else if let Some(filter) = filter_to_pin(&regions, pin_filter) {
         source.compare_together(&[index, (filter, BlockType::Filter)]);
     }
 }
@@ -241,21 +147,17 @@ fn recover_inner<A: Allocator + Clone>(
     ensures tree { IfOk result (λ inner. inner.tree_id ≡ tree_id) }
     ensures checksum { IfOk result (λ inner. inner.checksum ≡ checksum) }
 {
-    let regions = ParsedRegions::parse_from_toc(&source.toc())?;
-    let metadata = fitting_metadata(source, &regions.metadata, global_seqno)?;
-    compare_pinned(source, &regions, pin_filter, pin_index);
-    let pinned = load_pinned(source, &regions, pin_filter, pin_index);
-    let (metadata, pinned) = beside(metadata, pinned)?;
-    Ok(Inner {
-        tree_id,
-        global_seqno,
+    let toc = source.toc();
+    compare_pinned(source, &toc, pin_filter, pin_index);
+    recover_in(
+        &mut Counted::new(source),
+        &toc,
         checksum,
-        metadata,
-        regions,
-        pinned_block_index: pinned.index,
-        pinned_filter_index: pinned.filter_index,
-        pinned_filter_block: pinned.filter_block,
-    })
+        global_seqno,
+        tree_id,
+        pin_filter,
+        pin_index,
+    )
 }
 
 /// Moves a value into a shared handle. Generic, so that a proof does not unfold the parts of a

@@ -2,7 +2,8 @@
 -- entry lies that was found.
 use Rattle.std.proofs.Common.{◌≡◌, ℕ, ◌+◌, ◌-◌, ◌≤◌, Bool, true, false, List, length, drop, Option}
 use Rattle.std.proofs.Common.{Some, None, get_or, refl, sym, ap, subst, ◌∙◌, arith, inl, inr}
-use Rattle.std.specs.Prelude.{find, not, is_some, slice_range, unwrap_or, [], Result, Ok, Err}
+use Rattle.std.specs.Prelude.{find, not, is_some, slice_range, unwrap_or, [], Result, Ok, Err, IfOk}
+use Rattle.std.specs.Prelude.{IfSome, ◌<◌}
 use Rattle.std.specs.List.{slice_get}
 use Rattle.std.specs.Option.{option_map}
 use Rattle.std.proofs.lemmas.Bool.{cases_lt}
@@ -23,7 +24,7 @@ use Rattle.sst_blocks.specs.Sections.{body_of}
 use Rattle.sst_blocks.specs.Version.{key_width}
 use Rattle.sst_blocks.specs.declared.block_type.BlockType.TheVariants.{Data, Index}
 use Rattle.sst_blocks.specs.Asked.{IsSure, place_for, point_of, result_map}
-use Rattle.sst_blocks.specs.Block.{Loaded, checked_payload, in_grammar, loaded}
+use Rattle.sst_blocks.specs.Block.{Loaded, checked_payload, entries_of, in_grammar, loaded}
 use Rattle.sst_blocks.specs.Handle.{Handle}
 use Rattle.sst_blocks.specs.Handles.{handles_in, reaches}
 use Rattle.sst_blocks.specs.Place.{place_of}
@@ -33,7 +34,8 @@ use Rattle.sst_blocks.proofs.Entries.{entry_lies, length-spelled, stands}
 use Rattle.sst_blocks.proofs.Items.{items_strict}
 use Rattle.sst_blocks.proofs.LoadLemmas.{checksum_right}
 use Rattle.sst_blocks.proofs.MarkLemmas.{body_part}
-use Rattle.sst_blocks.proofs.Points.{read_hit, read_other, read_past}
+use Rattle.sst_blocks.proofs.Points.{point_below, read_hit, read_other, read_past}
+use Rattle.sst_entries.specs.Error.{Gives}
 use Rattle.sst_blocks.proofs.SpanLemmas.{find_at_front, front_length-le}
 
 -- ---- what is told of a payload with the right checksum
@@ -151,6 +153,26 @@ module _ {X : Type 0} where
 
   pub sure_fault : (returned : Result (Option X) Error) (e : Error) → returned ≡ Err e → IsSure (Err e) returned
   sure_fault returned e is = subst (λ (t : Result (Option X) Error). IsSure (Err e) t) (sym is) refl
+
+-- ---- what a point read finds is visible
+
+pub visible_given : (returned : Result Loaded Error) (key : List ℕ) (bound : ℕ)
+    (r : Result (Option Entry) Error)
+    → Gives (λ (x : Option Entry). x) r (result_map (point_of key bound) returned)
+    → IfOk r (λ found. IfSome found (λ e. e.seqno < bound))
+visible_given (Ok b) key bound (Ok None) given = tt
+visible_given (Ok b) key bound (Ok (Some e)) given =
+    let found : point (entries_of b) key bound ≡ Some e = cc in
+    point_below (entries_of b) key bound e found
+visible_given (Err f) key bound (Ok found) given = absurd cc
+visible_given returned key bound (Err e) given = tt
+
+pub point_visible : (es : List Entry) (key : List ℕ) (bound : ℕ) (r : Result (Option Entry) Error)
+    → IfOk r (λ found. found ≡ point es key bound)
+    → IfOk r (λ found. IfSome found (λ e. e.seqno < bound))
+point_visible es key bound (Ok None) is = tt
+point_visible es key bound (Ok (Some e)) is = point_below es key bound e (sym is)
+point_visible es key bound (Err e) is = tt
 
 -- ---- where an entry lies in a table's bytes
 

@@ -1,10 +1,11 @@
 -- What a load tells, one fault after another.
 use Rattle.std.proofs.Common.{◌≡◌, ℕ, ◌+◌, ◌-◌, ◌<◌, ◌≤◌, ◌==◌, ◌||◌, not, nat_lt, Bool, true}
 use Rattle.std.proofs.Common.{false, if◌then◌else◌, List, length, drop, slice_range, refl, sym, ap}
-use Rattle.std.proofs.Common.{◌∙◌, arith}
+use Rattle.std.proofs.Common.{◌∙◌, arith, inl, inr}
 use Rattle.std.specs.Prelude.{Option, Some, None, Result, Ok, Err, IfOk}
-use Rattle.std.proofs.lemmas.Bool.{eq-eqb}
+use Rattle.std.proofs.lemmas.Bool.{cases_lt, eq-eqb}
 use Rattle.std.proofs.lemmas.List.{length-take}
+use Rattle.bytes.proofs.Ranges.{slice_range-slice_range}
 use Rattle.sst_blocks.specs.declared.block_type.BlockType.{BlockType}
 use Rattle.sst_blocks.specs.declared.block_type.BlockType.TheVariants.{Data, Index, Filter, Meta}
 use Rattle.sst_blocks.specs.Starts.{HoldsEntries}
@@ -18,7 +19,7 @@ use Rattle.sst_blocks.specs.Fnv.{fnv1a}
 use Rattle.sst_blocks.specs.Block.{Loaded, grammar_fault, in_grammar, checksum_fault, loaded}
 use Rattle.sst_blocks.specs.Block.{header_fault, data_len, uncompressed_len, stored_checksum}
 use Rattle.sst_blocks.specs.Block.{version_in, checked_payload, load_result, load_at_result}
-use Rattle.sst_blocks.specs.Block.{place_fault, position_fault, room_fault}
+use Rattle.sst_blocks.specs.Block.{decode_block, place_fault, position_fault, room_fault}
 
 -- no fault yet
 after : {A : Type 0} (wrong : Bool) (e : Error) (fault : Option Error) (returned : Result A Error)
@@ -339,9 +340,59 @@ load_kind body offset size kind b returned =
     checked_kind (version_in head) (stored_checksum head) kind
     (slice_range body (offset + 24) (offset + size)) b (passed wrong InvalidHeader tail b two)
 
+pub kind_given : (body : List ℕ) (offset size : ℕ) (kind : BlockType) (r : Result Loaded Error)
+    → Gives {X = Loaded} {Y = Loaded} (λ b. b) r (load_result body offset size kind)
+    → IfOk r (λ b. b.kind ≡ kind)
+kind_given body offset size kind (Ok b) given = load_kind body offset size kind b given
+kind_given body offset size kind (Err e) given = tt
+
 -- a block of data holds entries
 pub data_holds : (k : BlockType) → k ≡ Data → HoldsEntries k
 data_holds Data is = tt
 data_holds Meta is = tt
 data_holds Index is = absurd cc
 data_holds Filter is = absurd cc
+
+-- ---- a block's bytes alone
+
+-- what is told of a header and a payload
+rest : BlockType → ℕ → List ℕ → List ℕ → Result Loaded Error
+rest kind size head payload = unless (header_fault kind head)
+    (if not (data_len head == uncompressed_len head) || not (24 + data_len head == size)
+    then Err InvalidHeader
+    else checked_payload (version_in head) (stored_checksum head) kind payload)
+
+load_rest : (body : List ℕ) (offset size : ℕ) (kind : BlockType) → 24 ≤ size
+    → offset + size ≤ length body → load_result body offset size kind
+    ≡ rest kind size (slice_range body offset (offset + 24))
+    (slice_range body (offset + 24) (offset + size))
+unfolding load_result rest
+load_rest body offset size kind long within = rw (fits body offset size kind long within) refl
+
+-- the bytes at an offset decode as they load there
+pub decode_part : (body : List ℕ) (offset : ℕ) (kind : BlockType) (bytes : List ℕ)
+    → offset + length bytes ≤ length body → bytes ≡ slice_range body offset (offset + length bytes)
+    → decode_block kind bytes ≡ load_result body offset (length bytes) kind
+decode_part body offset kind bytes within is =
+    elim (cases_lt (length bytes) 24) [
+      | inl short ↦ load_truncated bytes 0 (length bytes) kind (λ long _. omega (arith, long, short))
+          ∙ sym (load_truncated body offset (length bytes) kind
+          (λ long _. omega (arith, long, short)))
+      | inr long ↦
+          let n = length bytes in
+          let part = ap (λ (b : List ℕ). slice_range b 0 24) is
+          ∙ slice_range-slice_range body offset (offset + n) 0 24 (omega arith)
+          (omega (arith, long)) in
+          let head : slice_range bytes 0 24 ≡ slice_range body offset (offset + 24) =
+          part ∙ ap (λ (k : ℕ). slice_range body k (offset + 24)) (omega arith) in
+          let cut = ap (λ (b : List ℕ). slice_range b 24 (0 + n)) is
+          ∙ slice_range-slice_range body offset (offset + n) 24 (0 + n) (omega (arith, long))
+          (omega arith) in
+          let payload : slice_range bytes 24 (0 + n)
+          ≡ slice_range body (offset + 24) (offset + n) =
+          cut ∙ ap (slice_range body (offset + 24)) (omega arith) in
+          load_rest bytes 0 n kind long (omega arith)
+          ∙ ap (λ (h : List ℕ). rest kind n h (slice_range bytes 24 (0 + n))) head
+          ∙ ap (rest kind n (slice_range body offset (offset + 24))) payload
+          ∙ sym (load_rest body offset n kind long within)
+    ]

@@ -12,7 +12,8 @@ use Rattle.sst_blocks.specs.declared.block_type.BlockType.TheVariants.{Data, Ind
 use Rattle.sst_blocks.specs.Block.{data_len, header_fault, in_grammar, kind_tag, stored_checksum}
 use Rattle.sst_blocks.specs.Block.{version_in}
 use Rattle.sst_blocks.specs.Marks.{HasItems, HasSum, Holds, Says, head_before}
-use Rattle.sst_blocks.specs.Placed.{IsHeaded, IsPlaced, payload_in}
+use Rattle.sst_blocks.specs.Placed.{IsHeaded, IsPlaced, IsRangeAt, payload_in}
+use Rattle.sst_blocks.specs.declared.block.range.PayloadRange.{PayloadRange}
 use Rattle.sst_blocks.specs.declared.block.header.Header.{Header}
 use Rattle.sst_blocks.specs.declared.marks.Verified.TheVariants.{Grammar}
 use Rattle.sst_blocks.specs.declared.source.payload.Payload.{Payload}
@@ -140,6 +141,20 @@ placed_there bytes at end kind h verified len within short none version sum size
           ∙ decode_kind kind (slice_range (body_of bytes) at (at + 24)) none;
       verified = cached;
     }
+
+-- so is a payload whose range was found by its header
+pub range_there : (bytes : List ℕ) (offset : ℕ) (kind : BlockType) (p : PayloadRange)
+    (verified : Bool) → IsRangeAt (body_of bytes) offset kind p
+    → (IsTrue verified → Holds Grammar bytes p.start)
+    → IsPlaced bytes kind
+    (record { header = p.header; start = p.start; end = p.end; is_verified = verified })
+range_there bytes offset kind p verified at cached =
+    let start : offset + 24 ≡ p.start = sym at.start in
+    let there = placed_there bytes offset p.end kind p.header verified
+    (omega (arith, at.start, at.end)) at.within at.short at.fault at.version at.checksum at.len
+    (λ is. subst (λ (s : ℕ). Holds Grammar bytes s) at.start (cached is)) in
+    subst (λ (s : ℕ). IsPlaced bytes kind
+    (record { header = p.header; start = s; end = p.end; is_verified = verified })) start there
 
 -- a word that is 0 says nothing
 none_says : (bytes : List ℕ) → Says bytes 0

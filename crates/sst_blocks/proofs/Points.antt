@@ -1,20 +1,21 @@
 -- A point read of a strict list is decided at one place.
 use Rattle.std.proofs.Common.{◌≡◌, ℕ, zero, suc, ◌<◌, ◌≤◌, Bool, true, false, List, [], ◌∷◌, length}
 use Rattle.std.proofs.Common.{get_or, Some, None, refl, sym, ap, subst, ◌∙◌, arith, inl, inr, ◌⊎◌}
-use Rattle.std.specs.Prelude.{find, not, nat_eq, nat_lt, ◌&&◌, ◌==◌}
+use Rattle.std.specs.Prelude.{Option, find, not, nat_eq, nat_lt, ◌&&◌, ◌==◌}
+use Rattle.std.proofs.Common.{cond, ltb}
 use Rattle.std.specs.declared.cmp.Ordering.{Ordering}
 use Rattle.std.specs.declared.cmp.Ordering.TheVariants.{Less, Equal, Greater}
 use Rattle.std.specs.Ordering.{nat_cmp, is_lt, ordering_then, ordering_reverse}
 use Rattle.std.specs.Cmp.Lexicographic.{slice_cmp, pointwise, nat_list_cmp_total, nat_list_eq_equiv}
 use Rattle.std.specs.Cmp.Lexicographic.{same_text, other_text}
-use Rattle.std.proofs.lemmas.Bool.{cases_lt}
+use Rattle.std.proofs.lemmas.Bool.{cases_lt, ltb-true}
 use Rattle.std.proofs.lemmas.Cmp.{tied_itself}
 use Rattle.std.proofs.lemmas.Option.{slice_get_within, get_or_from_slice_get}
 use Rattle.std.specs.List.{slice_get}
 use Rattle.std.specs.List.Sorted.{IsPartitionedBy}
 use Rattle.sst_entries.specs.declared.value_type.ValueType.TheVariants.{Value}
 use Rattle.sst_entries.specs.Entry.{Entry, entry}
-use Rattle.sst_entries.specs.Key.{key_lt}
+use Rattle.sst_entries.specs.Key.{key_lt, same_key}
 use Rattle.sst_entries.specs.Point.{is_hit, point, read_place}
 use Rattle.sst_entries.specs.Span.{front_length}
 use Rattle.sst_entries.specs.Strict.{is_before, IsStrict}
@@ -42,6 +43,24 @@ keys_apart xs ys r e h = other_text xs ys (not_true (pointwise nat_eq xs ys) r e
 
 pub keys_same : (xs ys : List ℕ) (r : Bool) → r ≡ not (pointwise nat_eq xs ys) → r ≡ false → xs ≡ ys
 keys_same xs ys r e h = same_text xs ys (not_false (pointwise nat_eq xs ys) r e h)
+
+-- ---- what is found is visible
+
+passes_by : {X : Type 0} (p : X → Bool) (x y : X) (o : Option X) (b : Bool) → p x ≡ b
+    → (o ≡ Some y → p y ≡ true) → cond b (Some x) o ≡ Some y → p y ≡ true
+passes_by p x y o true e rest h = let same : x ≡ y = cc in subst (λ z. p z ≡ true) same e
+passes_by p x y o false e rest h = rest h
+
+pub find_passes : {X : Type 0} (p : X → Bool) (xs : List X) (y : X) → find p xs ≡ Some y
+    → p y ≡ true
+find_passes p [] y h = absurd cc
+find_passes p (x ∷ xs) y h = passes_by p x y (find p xs) (p x) refl (find_passes p xs y) h
+
+pub point_below : (es : List Entry) (key : List ℕ) (bound : ℕ) (e : Entry)
+    → point es key bound ≡ Some e → e.seqno < bound
+unfolding point
+point_below es key bound e h = ltb-true _ _ (and_right (same_key e.user_key key) (ltb e.seqno bound)
+    (find_passes (is_hit key bound) es e h))
 
 -- ---- fronts of a strict list
 

@@ -166,6 +166,21 @@ position_fault body position kind =
     option_or (checksum_fault (stored_checksum head) payload)
     (room_fault (version_in head) kind payload)))
 
+-- the size of a block by its header, or the first fault of the header
+abbrev pub head_size : BlockType → List ℕ → Result ℕ Error
+head_size kind head =
+    unless (header_fault kind head)
+    (if not (data_len head == uncompressed_len head) then Err InvalidHeader
+    else Ok (header_len + data_len head))
+
+-- the block of a type that some bytes are, or the first fault
+abbrev pub decode_block : BlockType → List ℕ → Result Loaded Error
+decode_block kind bytes = load_result bytes 0 (length bytes) kind
+
+-- the first fault that is found before allocating
+abbrev pub decode_fault : BlockType → List ℕ → Option Error
+decode_fault kind bytes = place_fault bytes 0 (length bytes) kind
+
 -- a block without its header
 abbrev pub loaded : TableVersion → BlockType → List ℕ → Loaded
 loaded v kind payload = record { version = v; kind = kind; payload = payload }

@@ -22,4 +22,5 @@ pub mod Placed
 pub mod EntryPlace
 pub mod Cursor
 pub mod Asked
+pub mod Access
 pub mod table

@@ -14,6 +14,7 @@ pub use Rattle.sst_blocks.specs.Block.{Loaded, LoadsBack, block_bytes, checksum_
 pub use Rattle.sst_blocks.specs.Block.{entries_of, grammar_fault, handles_of, has_room}
 pub use Rattle.sst_blocks.specs.Block.{has_room_for, header_fault, header_len, in_grammar}
 pub use Rattle.sst_blocks.specs.Block.{is_filter, kind_tag, loaded, room_fault, stored_checksum}
+pub use Rattle.sst_blocks.specs.Block.{decode_block, decode_fault, head_size}
 pub use Rattle.sst_blocks.specs.Block.{uncompressed_len, version_in}
 pub use Rattle.sst_blocks.specs.Bounds.{bound_of, data_block_bound_of, index_block_bound_of}
 pub use Rattle.sst_blocks.specs.Cursor.{Cursor, advanced, cursor_of, over_cursor, retreated, unlent}
@@ -53,11 +54,12 @@ pub use Rattle.sst_blocks.specs.Marks.{Holds, Says}
 unfoldable pub use Rattle.sst_blocks.specs.Number.{le4, le8, num2, num4, num8}
 pub use Rattle.sst_blocks.specs.Opened.{none_opened, with_load}
 pub use Rattle.sst_blocks.specs.Placed.{IsHeaded, IsPlaced, IsValid, checked_in, fault_in}
-pub use Rattle.sst_blocks.specs.Placed.{payload_in}
+pub use Rattle.sst_blocks.specs.Placed.{IsRangeAt, payload_in}
 unfoldable pub use Rattle.sst_blocks.specs.Reading.{entry_at, parts_at}
 pub use Rattle.sst_blocks.specs.Sections.{AreAscending, ReadsBack, Written, body_of, finished}
 pub use Rattle.sst_blocks.specs.Sections.{is_past, section_at, section_names, section_of, slot}
 pub use Rattle.sst_blocks.specs.Sections.{slot_index, slots_len, trailer_fault, trailer_mark}
+pub use Rattle.sst_blocks.specs.Sections.{trailer_of}
 unfoldable pub use Rattle.sst_blocks.specs.Sections.{section_in}
 pub use Rattle.sst_blocks.specs.Version.{key_len_at, key_width, longest_key, mark, version_of}
 pub use Rattle.sst_blocks.specs.declared.block_type.BlockType.{BlockType}

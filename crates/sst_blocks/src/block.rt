@@ -3,7 +3,9 @@ ghost use Rattle.std.specs.Prelude.{◌≡◌, ◌+◌, ◌++◌, ◌<◌, ◌^�
 ghost use Rattle.std.specs.Prelude.{IfErr, OnOk, OnErr};
 ghost use Rattle.sst_blocks.specs.Words as spec;
 
+mod decode;
 mod header;
+mod range;
 
 use crate::data_block::entry_head_len;
 use crate::index_block::{HandleRef, handle_head_len};
@@ -13,7 +15,9 @@ use crate::{
     BlockHandle, BlockOffset, BlockType, CompressionType, EntryRef, Error, SectionWriter, Slice,
     TableVersion,
 };
+pub use decode::block_size;
 pub use header::Header;
+pub(crate) use range::{PayloadRange, payload_range};
 use std::alloc::{AllocError, Allocator, Global};
 use std::marker::Model;
 

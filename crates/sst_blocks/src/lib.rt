@@ -25,7 +25,7 @@ mod table;
 mod toc;
 mod version;
 
-pub use block::{Block, EMPTY_LEN, Header, written_blocks_load};
+pub use block::{Block, EMPTY_LEN, Header, block_size, written_blocks_load};
 pub use block_type::BlockType;
 pub use checksum::Checksum;
 pub use compression::CompressionType;

@@ -14,8 +14,12 @@ use std::marker::Model;
 ///
 /// Only [`LoadBlocks::load`] is required; the other calls load the block and query it. [`Counted`]
 /// overrides them with calls that need no memory for the offsets of items.
+///
+/// A source says how it has its bytes. If they are not in memory, a load that cannot read them
+/// fails with [`Error::OutOfMemory`], and the source keeps the reason.
 pub trait LoadBlocks {
-    ghost use Rattle.std.specs.Prelude.{◌≡◌, Bool, List, ℕ, Option};
+    ghost use Rattle.std.specs.Prelude.{◌≡◌, ◌<◌, Bool, List, ℕ, Option, IfOk, IfSome};
+    ghost use Rattle.sst_blocks.specs.Access.{Access, IsInMemory, IsKnown};
     ghost use Rattle.sst_blocks.specs.Asked.{find_result, maybe_result, point_result};
     ghost use Rattle.sst_blocks.specs.Block.{load_result, place_fault, Loaded};
     ghost use Rattle.sst_blocks.specs.declared.block_type.BlockType.TheVariants.{Data, Filter};
@@ -29,7 +33,10 @@ pub trait LoadBlocks {
     /// The allocator of the blocks.
     type Alloc: Allocator;
 
-    /// The bytes before the trailer.
+    /// How it has the bytes.
+    ghost access: { Access };
+
+    /// The bytes before the trailer, where they are known.
     ghost body: { Self → List ℕ };
 
     /// The number of loads of each kind.
@@ -41,13 +48,16 @@ pub trait LoadBlocks {
     ///
     /// # Errors
     ///
-    /// Fails as [`BlockSource::load`] on the same bytes.
+    /// Fails as [`BlockSource::load`] on the same bytes. If they are not in memory,
+    /// [`Error::OutOfMemory`] can hide any error.
     fn load(&mut self, handle: &BlockHandle, kind: BlockType) -> Result<Block<Self::Alloc>, Error>
         ensures returned { let bytes = body self.old in
-            Gives (λ (b : Loaded). b) result
+            IsKnown access → Gives (λ (b : Loaded). b) result
             (load_result bytes handle.now.offset handle.now.size kind) }
         ensures first { let bytes = body self.old in
+            IsInMemory access →
             FaultsFirst result (place_fault bytes handle.now.offset handle.now.size kind) }
+        ensures kind { IfOk result (λ b. b.kind ≡ kind) }
         ensures body { body self.new ≡ body self.old }
         ensures counted { opened self.new ≡ with_load kind (opened self.old) };
 
@@ -67,10 +77,12 @@ pub trait LoadBlocks {
         seqno: SeqNo,
     ) -> Result<Option<InternalValue<Self::Alloc>>, Error>
         ensures returned { let bytes = body self.old in
-            Gives (λ (found : Option Entry). found) result
+            IsKnown access → Gives (λ (found : Option Entry). found) result
             (point_result bytes handle.now.offset handle.now.size key.now seqno) }
         ensures first { let bytes = body self.old in
+            IsInMemory access →
             FaultsFirst result (place_fault bytes handle.now.offset handle.now.size Data) }
+        ensures visible { IfOk result (λ found. IfSome found (λ e. e.seqno < seqno)) }
         ensures body { body self.new ≡ body self.old }
         ensures counted { opened self.new ≡ with_load Data (opened self.old) }
     {
@@ -96,9 +108,10 @@ pub trait LoadBlocks {
         seqno: SeqNo,
     ) -> Result<Option<BlockHandle>, Error>
         ensures returned { let bytes = body self.old in
-            Gives (λ (found : Option Place). found) result
+            IsKnown access → Gives (λ (found : Option Place). found) result
             (find_result bytes handle.now.offset handle.now.size key.now seqno) }
         ensures first { let bytes = body self.old in
+            IsInMemory access →
             FaultsFirst result (place_fault bytes handle.now.offset handle.now.size Index) }
         ensures body { body self.new ≡ body self.old }
         ensures counted { opened self.new ≡ with_load Index (opened self.old) }
@@ -120,9 +133,10 @@ pub trait LoadBlocks {
     /// hides only the errors that it can hide in [`LoadBlocks::load`].
     fn maybe_contains_hash(&mut self, handle: &BlockHandle, hash: u64) -> Result<bool, Error>
         ensures returned { let bytes = body self.old in
-            Gives (λ (maybe : Bool). maybe) result
+            IsKnown access → Gives (λ (maybe : Bool). maybe) result
             (maybe_result bytes handle.now.offset handle.now.size hash) }
         ensures first { let bytes = body self.old in
+            IsInMemory access →
             FaultsFirst result (place_fault bytes handle.now.offset handle.now.size Filter) }
         ensures body { body self.new ≡ body self.old }
         ensures counted { opened self.new ≡ with_load Filter (opened self.old) }
@@ -172,9 +186,12 @@ impl<'a, A: Allocator + Clone> Counted<'a, A> {
 }
 
 impl<A: Allocator + Clone> LoadBlocks for Counted<'_, A> {
+    ghost use Rattle.sst_blocks.specs.Access.{in_memory};
     ghost use Rattle.sst_blocks.specs.Sections.{body_of};
 
     type Alloc = A;
+
+    ghost access = { in_memory };
 
     ghost body = { λ c. body_of c.0 };
 

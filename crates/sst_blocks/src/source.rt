@@ -7,7 +7,7 @@ ghost use Rattle.sst_blocks.specs.Words as spec;
 mod payload;
 mod reads;
 
-use crate::block::{Header, has_room};
+use crate::block::{Header, has_room, payload_range};
 use crate::marks::{Marks, SPAN, Verified};
 use crate::{
     Block, BlockHandle, BlockType, Error, Opened, Slice, TRAILER_LEN, Toc, has_hash, hash_four,
@@ -240,28 +240,13 @@ impl<A: Allocator + Clone> BlockSource<A> {
             let fault = spec.place_fault body handle.now.offset handle.now.size kind in
             MatchResult result (λ p. fault ≡ spec.fault_in body kind p) (λ e. fault ≡ Some e) }
     {
-        let body = self.body();
         let size = handle.size() as usize;
-        if size < HEADER_LEN
-            || body.len() < size
-            || ((body.len() - size) as u64) < handle.offset().0
-        {
-            // No room for a header, or past the body.
-            return Err(Error::Truncated);
-        }
-        let start = handle.offset().0 as usize;
-        let header = Header::decode(&body[start..start + HEADER_LEN], kind)?;
-        if header.data_len != header.uncompressed_len
-            || HEADER_LEN + header.data_len as usize != size
-        {
-            // The two lengths disagree, or differ from the handle's.
-            return Err(Error::InvalidHeader);
-        }
+        let range = payload_range(self.body(), handle.offset().0, size, kind)?;
         Ok(Payload {
-            header,
-            start: start + HEADER_LEN,
-            end: start + size,
-            is_verified: self.is_cached(start + HEADER_LEN, Verified::Grammar),
+            header: range.header,
+            start: range.start,
+            end: range.end,
+            is_verified: self.is_cached(range.start, Verified::Grammar),
         })
     }
 

@@ -1,6 +1,6 @@
 //! The table of contents that a trailer stores.
-ghost use Rattle.std.specs.Prelude.{◌≡◌, ◌*◌, ◌≤◌, None, Some, drop, length, map, slice_index_or};
-ghost use Rattle.std.specs.Prelude.{IfOk};
+ghost use Rattle.std.specs.Prelude.{◌≡◌, ◌*◌, ◌≤◌, ℕ, List, None, Some, drop, length, map};
+ghost use Rattle.std.specs.Prelude.{slice_index_or, IfOk};
 ghost use Rattle.sst_blocks.specs.Words as spec;
 
 use crate::number::u64_at;
@@ -56,11 +56,32 @@ impl Toc {
         }
         let end = bytes.len() - TRAILER_LEN;
         let (_, trailer) = bytes.split_at(end);
+        Toc::of_trailer(trailer, end as u64)
+    }
+
+    /// Reads a trailer that follows a body of some length.
+    ///
+    /// `trailer` is the last 120 bytes of a table, or all of its bytes if there are fewer.
+    ///
+    /// # Errors
+    ///
+    /// Fails as [`Toc::of`] on the bytes of the table.
+    pub fn of_trailer(trailer: &[u8], body_len: u64) -> Result<Toc, Error>
+        ensures toc { (bytes : List ℕ) → spec.trailer_of bytes ≡ trailer.now →
+            length (spec.body_of bytes) ≡ body_len →
+            IfOk result (λ toc. toc ≡ map (spec.section_in bytes) spec.section_names) }
+        ensures fault { (bytes : List ℕ) → spec.trailer_of bytes ≡ trailer.now →
+            length (spec.body_of bytes) ≡ body_len →
+            spec.Refuses result (spec.trailer_fault bytes) }
+    {
+        if trailer.len() < TRAILER_LEN {
+            return Err(Error::InvalidTrailer);
+        }
         if &trailer[SLOTS_LEN..] != TRAILER_MARK.as_slice() {
             return Err(Error::InvalidTrailer);
         }
         let toc = Toc::read(trailer);
-        if toc.passes(end) {
+        if toc.passes(body_len) {
             return Err(Error::InvalidTrailer);
         }
         Ok(toc)
@@ -87,7 +108,7 @@ impl Toc {
     }
 
     /// Returns whether a section reaches past a body that ends at `end`.
-    fn passes(&self, end: usize) -> bool
+    fn passes(&self, end: u64) -> bool
         ensures { result ≡ spec.list_any (spec.is_past end) self.now }
     {
         self.sections.iter().any(|section| is_past(end, section))
@@ -109,14 +130,14 @@ fn section_at(slot: &[u8]) -> Option<Section>
 }
 
 /// Returns whether a section reaches past a body that ends at `end`, without wrapping.
-fn is_past(end: usize, section: &Option<Section>) -> bool
+fn is_past(end: u64, section: &Option<Section>) -> bool
     ensures { result ≡ spec.is_past end section.now }
 {
     match section {
         None => false,
         Some(section) => match section.position.checked_add(section.len) {
             None => true,
-            Some(section_end) => (end as u64) < section_end,
+            Some(section_end) => end < section_end,
         },
     }
 }

@@ -6,6 +6,7 @@ use Rattle.sst_entries.specs.declared.error.Error.{Error}
 use Rattle.sst_entries.specs.Error.{FaultsFirst, Gives, is_memory}
 use Rattle.sst_blocks.specs.declared.block_type.BlockType.{BlockType}
 use Rattle.sst_blocks.specs.declared.opened.Opened.{Opened}
+use Rattle.sst_blocks.specs.Access.{Access, IsInMemory}
 use Rattle.sst_blocks.specs.Block.{Loaded, load_result, place_fault}
 use Rattle.sst_blocks.specs.Opened.{with_load}
 use Rattle.sst_blocks.specs.Place.{Place}
@@ -79,11 +80,11 @@ pub record Opens {X : Type 0} (r : Result X Error) (loads : List BlockType) (old
   pub whole : wants_memory r ≡ false → made ≡ length loads
   pub some : 0 < length loads → 0 < made
 
--- A call did a read: except for `OutOfMemory` it returned its result, early errors first, and made
--- its loads. A read without loads never fails.
-pub record DoesRead {X : Type 0} (r : Result X Error) (read : Read X)
+-- A call did a read from bytes that are known: except for `OutOfMemory` it returned its result, early
+-- errors first where the bytes are in memory, and made its loads. A read without loads never fails.
+pub record DoesRead {X : Type 0} (access : Access) (r : Result X Error) (read : Read X)
     (old new : Opened) : Type 0 where
   pub returned : Gives (λ (x : X). x) r read.returned
-  pub early : FaultsFirst r read.early
+  pub early : IsInMemory access → FaultsFirst r read.early
   pub opens : Opens r read.loads old new
   pub calm : read.loads ≡ [] → IsOk r

@@ -19,7 +19,7 @@ returns-in_err-handle-clause-returned g c =
     let e = c.in_err-handle.field-0.0 in
     passes_fault (option_map (g.F.Finder.entry bytes)) c.from_residual.result (query_result (body_of bytes) inner.global_seqno parts query) e c.from_residual.ensures.1
     (λ small.
-    let read = c.in_err-handle.ensures.read.returned small in
+    let read = (c.in_err-handle.ensures.read tt).returned small in
     let there = subst (λ (b : List ℕ). (admitted_handle (body_of b) parts c.as_slice-key.result.now low).returned ≡ Err e) c.new-source.ensures.source read in
     let at = subst (λ (key : List ℕ). (admitted_handle (body_of bytes) parts key low).returned ≡ Err e) c.as_slice-key.ensures there in
     lookup_fails (body_of bytes) inner.global_seqno parts query.key query.seqno low e c.saturating_sub-low.ensures at)

@@ -10,7 +10,7 @@ pub returns-clause-returned : goal.returns-clause-returned
 returns-clause-returned g c = gives_seen (option_map (entry_placed c.args.source.now)) c.read_place.result.0 _ c.read_place.ensures.read.returned
 
 pub returns-clause-early : goal.returns-clause-early
-returns-clause-early g c = first_seen (option_map (entry_placed c.args.source.now)) c.read_place.result.0 _ c.read_place.ensures.read.early
+returns-clause-early g c = first_seen (option_map (entry_placed c.args.source.now)) c.read_place.result.0 _ (c.read_place.ensures.read.early tt)
 
 pub returns-clause-calm : goal.returns-clause-calm
 returns-clause-calm g c none = ok_seen (option_map (entry_placed c.args.source.now)) c.read_place.result.0 (c.read_place.ensures.read.calm none)

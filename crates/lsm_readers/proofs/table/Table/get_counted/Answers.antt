@@ -17,26 +17,26 @@ pub returns-clause-returned : goal.returns-clause-returned
 returns-clause-returned g c =
     let same = ap (table_of c.self.inside.source) c.deref-inner.ensures ∙ c.self.view_is in
     let is = table_read c.new-source.result.0 c.self.inside.source c.deref-inner.result.now c.args.self.now c.args.key.now c.args.seqno c.new-source.ensures.source same in
-    subst (λ (r : Read (Option Entry)). Gives (λ (x : Option Entry). x) c.point_in-found.result r.returned) is c.point_in-found.ensures.returned
+    subst (λ (r : Read (Option Entry)). Gives (λ (x : Option Entry). x) c.point_in-found.result r.returned) is (c.point_in-found.ensures.returned tt)
 
 pub returns-clause-early : goal.returns-clause-early
 returns-clause-early g c =
     let same = ap (table_of c.self.inside.source) c.deref-inner.ensures ∙ c.self.view_is in
     let is = table_read c.new-source.result.0 c.self.inside.source c.deref-inner.result.now c.args.self.now c.args.key.now c.args.seqno c.new-source.ensures.source same in
-    subst (λ (r : Read (Option Entry)). FaultsFirst c.point_in-found.result r.early) is c.point_in-found.ensures.early
+    subst (λ (r : Read (Option Entry)). FaultsFirst c.point_in-found.result r.early) is (c.point_in-found.ensures.early tt)
 
 pub returns-clause-calm : goal.returns-clause-calm
 returns-clause-calm g c =
     let same = ap (table_of c.self.inside.source) c.deref-inner.ensures ∙ c.self.view_is in
     let is = table_read c.new-source.result.0 c.self.inside.source c.deref-inner.result.now c.args.self.now c.args.key.now c.args.seqno c.new-source.ensures.source same in
-    subst (λ (r : Read (Option Entry)). r.loads ≡ [] → IsOk c.point_in-found.result) is c.point_in-found.ensures.calm
+    subst (λ (r : Read (Option Entry)). r.loads ≡ [] → IsOk c.point_in-found.result) is (c.point_in-found.ensures.calm tt)
 
 pub returns-clause-opened : goal.returns-clause-opened
 returns-clause-opened g c =
     let same = ap (table_of c.self.inside.source) c.deref-inner.ensures ∙ c.self.view_is in
     let is = table_read c.new-source.result.0 c.self.inside.source c.deref-inner.result.now c.args.self.now c.args.key.now c.args.seqno c.new-source.ensures.source same in
     let loads = (table_answer c.args.self.now c.args.key.now c.args.seqno).loads in
-    let made = subst (λ (r : Read (Option Entry)). Opens c.point_in-found.result r.loads c.new-source.result.1 c.point_in-found.new.source.1) is c.point_in-found.ensures.opened in
+    let made = subst (λ (r : Read (Option Entry)). Opens c.point_in-found.result r.loads c.new-source.result.1 c.point_in-found.new.source.1) is (c.point_in-found.ensures.opened tt) in
     let returned = subst (λ (o : Opened). Opens c.point_in-found.result loads c.new-source.result.1 o) (sym c.opened.ensures) made in
     subst (λ (o : Opened). Opens c.point_in-found.result loads o c.opened.result) c.new-source.ensures.none returned
 

@@ -14,7 +14,7 @@ returns-clause-early g c =
     let returned = c.get_place-found.ensures in
     let read = table_answer c.args.self.now c.args.key.now c.args.seqno in
     let does = lent_does c.args.self.now.bytes c.get_place-found.result.0 c.found_at.result c.found_at.ensures read none_opened c.get_place-found.result.1 returned.returned returned.early returned.opened returned.calm in
-    first_seen (option_map entry_of_ref) c.found_at.result read.early does.early
+    first_seen (option_map entry_of_ref) c.found_at.result read.early (does.early tt)
 
 pub returns-clause-calm : goal.returns-clause-calm
 returns-clause-calm g c none =

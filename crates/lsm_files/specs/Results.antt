@@ -1,0 +1,49 @@
+-- Results of calls on a table in its file.
+use Rattle.std.specs.Prelude.{◌≡◌, ◌<◌, ◌⊎◌, ℕ, false, Option, Some, None, Result, Ok, Err}
+use Rattle.sst_entries.specs.declared.error.Error.{Error}
+use Rattle.sst_entries.specs.declared.error.Error.TheVariants.{OutOfMemory}
+use Rattle.sst_entries.specs.Error.{Fails, is_memory}
+use Rattle.lsm_files.specs.declared.error.FileError.{FileError}
+use Rattle.lsm_files.specs.declared.error.FileError.TheVariants.{Io, Table}
+use Rattle.lsm_files.specs.Reads.{MayFail, Reads}
+
+-- The error is one of the system.
+abbrev pub IsIo : FileError → Type 0
+IsIo (Io e) = Unit {0}
+IsIo (Table e) = ⊥
+
+-- A read failed, which it may.
+abbrev pub IsFailure : Reads → FileError → Type 0
+IsFailure reads (Io e) = MayFail reads
+IsFailure reads (Table e) = ⊥
+
+-- A read failed, or the error is this one of the table.
+abbrev pub IsFailureOr : Reads → Error → FileError → Type 0
+IsFailureOr reads e (Io f) = MayFail reads
+IsFailureOr reads e (Table f) = f ≡ e
+
+-- Except for `OutOfMemory` and failed reads, a call returns the expected result, its value seen
+-- through a view.
+abbrev pub FileGives : {X Y : Type 0} → Reads → (X → Y) → Result X FileError → Result Y Error
+    → Type 0
+FileGives reads view (Ok x) returned = returned ≡ Ok (view x)
+FileGives reads view (Err (Io e)) returned = MayFail reads
+FileGives reads view (Err (Table e)) returned = Fails e returned
+
+-- Except for `OutOfMemory` and failed reads, a call fails exactly with the expected error, and
+-- succeeds without one.
+abbrev pub FileFaults : {X : Type 0} → Reads → Result X FileError → Option Error → Type 0
+FileFaults reads (Ok x) returned = returned ≡ None
+FileFaults reads (Err (Io e)) returned = MayFail reads
+FileFaults reads (Err (Table e)) returned = is_memory e ≡ false → returned ≡ Some e
+
+-- A read failed, or memory ran out, or the bytes end before the last that was wanted.
+abbrev pub IsReadError : Reads → ℕ → ℕ → FileError → Type 0
+IsReadError reads len end (Io e) = MayFail reads ⊎ (len < end)
+IsReadError reads len end (Table e) = e ≡ OutOfMemory
+
+-- A result, with a failed read as `OutOfMemory`.
+abbrev pub failure_as_memory : {X : Type 0} → Result X FileError → Result X Error
+failure_as_memory (Ok x) = Ok x
+failure_as_memory (Err (Io e)) = Err OutOfMemory
+failure_as_memory (Err (Table e)) = Err e
