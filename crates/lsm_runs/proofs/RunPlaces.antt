@@ -22,6 +22,7 @@ use Rattle.lsm_sorted.specs.version.Run.{overlap_indexes, starts_within, table_o
 use Rattle.lsm_sorted.proofs.RunLemmas.{falls-starts_within, first_and_last-some, key_found}
 use Rattle.lsm_sorted.proofs.RunLemmas.{key_none, key_past, none_count, rest_in_order}
 use Rattle.lsm_readers.proofs.ReadViews.{does_by, gives_by, gives_seen}
+use Rattle.sst_blocks.specs.Access.{in_memory}
 use Rattle.lsm_readers.specs.point.Read.{DoesRead, Opens, Read}
 use Rattle.lsm_readers.specs.point.Table.{OpenTable}
 use Rattle.lsm_readers.proofs.LentReads.{placed_there}
@@ -137,10 +138,10 @@ module _ (runs : List (List OpenTable)) (tables : List OpenTable) (n : ℕ)
 
   pub does_in_runs : (r : Result (Option RunPlace) Error) (read : Read (Option Entry))
       (own : Opened) → IfOk r (λ found. IfSome found (λ p. p.run ≡ n))
-      → DoesRead (result_map (option_and_then (placed_in_run tables)) r) read none_opened own
-      → DoesRead (result_map (option_and_then (placed_in_runs runs)) r) read none_opened own
+      → DoesRead in_memory (result_map (option_and_then (placed_in_run tables)) r) read none_opened own
+      → DoesRead in_memory (result_map (option_and_then (placed_in_runs runs)) r) read none_opened own
   does_in_runs r read own is does =
-      subst (λ (s : Result (Option Entry) Error). DoesRead s read none_opened own)
+      subst (λ (s : Result (Option Entry) Error). DoesRead in_memory s read none_opened own)
       (seen_in_runs r is) does
 
   pub there_in_runs : (found : Option RunPlace) → IfSome found (λ p. p.run ≡ n)
@@ -174,7 +175,7 @@ module _ (entry : RunPlace → Option Entry) (found : Result (Option RunPlace) E
   pub lent_does : (read : Read (Option Entry)) (o o' : Opened)
       → Gives (option_and_then entry) found read.returned → FaultsFirst found read.early
       → Opens found read.loads o o' → (read.loads ≡ [] → IsOk found)
-      → DoesRead (result_map (option_map entry_of_ref) lent) read o o'
+      → DoesRead in_memory (result_map (option_map entry_of_ref) lent) read o o'
   lent_does read o o' returned first opens calm =
-      subst (λ (r : Result (Option Entry) Error). DoesRead r read o o') (sym same)
-      (does_by (option_and_then entry) found read o o' returned first opens calm)
+      subst (λ (r : Result (Option Entry) Error). DoesRead in_memory r read o o') (sym same)
+      (does_by (option_and_then entry) in_memory found read o o' returned first opens calm)

@@ -16,6 +16,7 @@ use Rattle.sst_blocks.specs.Place.{Place}
 use Rattle.lsm_sorted.specs.version.Run.{IsInOrder}
 use Rattle.lsm_readers.specs.point.Answer.{LoadsFew, most_filter_loads}
 use Rattle.lsm_readers.specs.point.Parts.{Parts}
+use Rattle.sst_blocks.specs.Access.{in_memory}
 use Rattle.lsm_readers.specs.point.Read.{DoesRead, Read, opened_by}
 use Rattle.lsm_readers.specs.point.Table.{OpenTable}
 use Rattle.lsm_readers.specs.Words.{BloomFilter}
@@ -108,7 +109,7 @@ together_loads (k ∷ ks) a b = together_loads ks a (with_load k b)
 
 -- a read that was counted alone, behind other loads
 counted_on : {X : Type 0} (r : Result X Error) (read : Read X) (old own : Opened) → AreSmall old
-    → DoesRead r read none_opened own → DoesRead r read old (loads_together old own)
+    → DoesRead in_memory r read none_opened own → DoesRead in_memory r read old (loads_together old own)
 counted_on r read old own small d =
     let made = take d.opens.made read.loads in
     record {
@@ -189,8 +190,8 @@ module _ {X : Type 0} (f : X → List OpenTable)
   -- what the runs from a place on do behind what was found and counted, that do all runs
   abbrev pub GoesOn : Option Entry → Opened → Type 0
   GoesOn found opened = (r : Result (Option Entry) Error) (new : Opened)
-      → DoesRead r (runs_read_by read found (map f (drop i xs))) opened new
-      → DoesRead r (runs_read_by read None (map f xs)) none_opened new
+      → DoesRead in_memory r (runs_read_by read found (map f (drop i xs))) opened new
+      → DoesRead in_memory r (runs_read_by read None (map f xs)) none_opened new
 
   abbrev pub ReadsOn : Option Entry → Opened → Type 0
   ReadsOn found opened = AllByRecursion (IsInOrder range_of) (map f xs) → GoesOn found opened
@@ -203,35 +204,35 @@ module _ {X : Type 0} (f : X → List OpenTable)
     split : drop i xs ≡ x ∷ drop (i + 1) xs
     split = drop_more xs i x less ∙ ap (λ (y : X). y ∷ drop (i + 1) xs) (sym is)
 
-    pub reads_next : (next : Option Entry) → DoesRead (found_is next)
+    pub reads_next : (next : Option Entry) → DoesRead in_memory (found_is next)
         (read found (f x)) none_opened own
         → (r : Result (Option Entry) Error) (new : Opened)
-        → DoesRead r (behind next) (loads_together opened own) new
-        → DoesRead r (runs_read_by read None (map f xs)) none_opened new
+        → DoesRead in_memory r (behind next) (loads_together opened own) new
+        → DoesRead in_memory r (runs_read_by read None (map f xs)) none_opened new
     reads_next next here r new d =
-        let both = then_goes (read found (f x)) behind next r opened
+        let both = then_goes in_memory (read found (f x)) behind next r opened
         (loads_together opened own) new (counted_on (found_is next)
         (read found (f x)) opened own small here) d in
-        on r new (subst (λ (ys : List X). DoesRead r
+        on r new (subst (λ (ys : List X). DoesRead in_memory r
         (runs_read_by read found (map f ys)) opened new) (sym split) both)
 
-    pub reads_fault : (e : Error) → DoesRead (refused_by e)
+    pub reads_fault : (e : Error) → DoesRead in_memory (refused_by e)
         (read found (f x)) none_opened own
-        → DoesRead (refused_by e) (runs_read_by read None (map f xs)) none_opened
+        → DoesRead in_memory (refused_by e) (runs_read_by read None (map f xs)) none_opened
         (loads_together opened own)
     reads_fault e here =
-        let ends = then_fails (read found (f x)) behind e (refused_by e) opened
+        let ends = then_fails in_memory (read found (f x)) behind e (refused_by e) opened
         (loads_together opened own) (counted_on (refused_by e)
         (read found (f x)) opened own small here) refl in
         on (refused_by e) (loads_together opened own)
-        (subst (λ (ys : List X). DoesRead (refused_by e)
+        (subst (λ (ys : List X). DoesRead in_memory (refused_by e)
         (runs_read_by read found (map f ys)) opened (loads_together opened own))
         (sym split) ends)
 
   pub reads_all : (found : Option Entry) (opened : Opened) → GoesOn found opened → length xs ≤ i
-      → DoesRead (found_is found) (runs_read_by read None (map f xs)) none_opened opened
+      → DoesRead in_memory (found_is found) (runs_read_by read None (map f xs)) none_opened opened
   reads_all found opened on past =
       on (found_is found) opened
-      (subst (λ (ys : List X). DoesRead (found_is found)
+      (subst (λ (ys : List X). DoesRead in_memory (found_is found)
       (runs_read_by read found (map f ys)) opened opened) (sym (drop_all i xs past))
-      (does_known found opened))
+      (does_known in_memory found opened))

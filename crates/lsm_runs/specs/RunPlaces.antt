@@ -8,6 +8,7 @@ use Rattle.sst_blocks.specs.declared.opened.Opened.{Opened}
 use Rattle.sst_blocks.specs.Asked.{result_map}
 use Rattle.sst_blocks.specs.EntryPlace.{placed_in}
 use Rattle.sst_blocks.specs.Opened.{none_opened}
+use Rattle.sst_blocks.specs.Access.{in_memory}
 use Rattle.lsm_readers.specs.point.Read.{DoesRead, Read}
 use Rattle.lsm_readers.specs.point.Table.{OpenTable}
 use Rattle.lsm_runs.specs.declared.lent_gets.RunPlace.{RunPlace}
@@ -36,7 +37,7 @@ OnEntryStored found P =
 -- a call read a run: the entry at the position that it returned, and the blocks that it loaded
 abbrev pub ReadsPlace : List OpenTable → Result (Option RunPlace) Error × Opened
     → Read (Option Entry) → Type 0
-ReadsPlace tables result read = DoesRead
+ReadsPlace tables result read = DoesRead in_memory
     (result_map (option_and_then (placed_in_run tables)) result.0) read none_opened result.1
 
 -- the position of an entry in a table of a run

@@ -12,6 +12,7 @@ pub use Rattle.sst_blocks.specs.table.Options.{default_options}
 pub use Rattle.lsm_sorted.specs.merge.Union.{item_cmp, newest}
 pub use Rattle.lsm_sorted.specs.version.Run.{ArePlacesOf, IsInOrder, overlap_indexes, table_of_key}
 pub use Rattle.lsm_readers.specs.point.Answer.{lift}
+pub use Rattle.sst_blocks.specs.Access.{in_memory}
 pub use Rattle.lsm_readers.specs.point.Read.{DoesRead, Opens}
 pub use Rattle.lsm_readers.specs.point.Table.{OpenTable}
 pub use Rattle.lsm_iters.specs.walk.Ends.{taken_at}

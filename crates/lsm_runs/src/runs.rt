@@ -229,7 +229,7 @@ fn get_run_counted<A: Allocator + Clone>(
 ) -> (Result<Option<InternalValue<A>>, Error>, Opened)
     requires { key_hash ≡ spec.hash_of key.now }
     ensures read { spec.IsInOrder spec.range_of run.now →
-        spec.DoesRead result.0 (spec.run_read key.now seqno run.now) spec.none_opened result.1 }
+        spec.DoesRead spec.in_memory result.0 (spec.run_read key.now seqno run.now) spec.none_opened result.1 }
     ensures few { spec.LoadsEach 1 result.1 }
 {
     match run.get_for_key(key) {

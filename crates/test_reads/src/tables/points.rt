@@ -24,9 +24,12 @@ struct Listing<'a, A: Allocator> {
 }
 
 impl<A: Allocator + Copy> LoadBlocks for Listing<'_, A> {
+    ghost use Rattle.sst_blocks.specs.Access.{in_memory};
     ghost use Rattle.sst_blocks.specs.Sections.{body_of};
 
     type Alloc = A;
+
+    ghost access = { in_memory };
 
     ghost body = { λ l. body_of l.source.0 };
 

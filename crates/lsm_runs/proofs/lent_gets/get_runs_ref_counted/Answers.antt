@@ -23,7 +23,7 @@ returns-clause-early g c order =
     let returned = c.place_in_runs_counted-found.ensures in
     let read = runs_read c.args.key.now c.args.seqno None all in
     let does = lent_does (placed_in_runs all) c.place_in_runs_counted-found.result.0 c.borrowed.result c.borrowed.ensures read none_opened c.place_in_runs_counted-found.result.1 (returned.returned order) (returned.early order) (returned.opened order) (returned.calm order) in
-    first_seen (option_map entry_of_ref) c.borrowed.result read.early does.early
+    first_seen (option_map entry_of_ref) c.borrowed.result read.early (does.early tt)
 
 pub returns-clause-calm : goal.returns-clause-calm
 returns-clause-calm g c order none =

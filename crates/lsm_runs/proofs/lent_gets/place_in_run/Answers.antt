@@ -9,6 +9,7 @@ use Rattle.sst_blocks.specs.EntryPlace.{entry_placed}
 use Rattle.sst_blocks.specs.Opened.{none_opened}
 use Rattle.lsm_readers.proofs.ReadViews.{does_by}
 use Rattle.lsm_readers.specs.point.Answer.{table_answer}
+use Rattle.sst_blocks.specs.Access.{in_memory}
 use Rattle.lsm_readers.specs.point.Read.{DoesRead}
 use Rattle.lsm_readers.specs.point.Table.{OpenTable}
 use Rattle.lsm_runs.specs.RunPlaces.{run_place, placed_in_run}
@@ -32,10 +33,10 @@ returns-clause-read g c order =
     let own = c.get_place-found.result.1 in
     let is = table-there g c in
     let here = sym is ∙ c.in-Some.ensures order in
-    let does = does_by (option_map (entry_placed t.bytes)) found (table_answer t key n) none_opened own returned.returned returned.early returned.opened returned.calm in
+    let does = does_by (option_map (entry_placed t.bytes)) in_memory found (table_answer t key n) none_opened own returned.returned returned.early returned.opened returned.calm in
     let seen = ap (result_map (option_and_then (placed_in_run c.args.run.now))) c.found_in.ensures ∙ seen_there c.args.run.now t c.args.number c.in-Some.index is found returned.placed in
-    subst (λ (r : Result (Option Entry) Error). DoesRead r (run_read key n c.args.run.now) none_opened own) (sym seen)
-    (subst (λ (o : Option OpenTable). DoesRead (result_map (option_map (entry_placed t.bytes)) found) (table_read key n o) none_opened own) here does)
+    subst (λ (r : Result (Option Entry) Error). DoesRead in_memory r (run_read key n c.args.run.now) none_opened own) (sym seen)
+    (subst (λ (o : Option OpenTable). DoesRead in_memory (result_map (option_map (entry_placed t.bytes)) found) (table_read key n o) none_opened own) here does)
 
 pub returns-clause-there : goal.returns-clause-there
 returns-clause-there g c =

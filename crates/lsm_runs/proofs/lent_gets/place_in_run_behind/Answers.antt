@@ -10,6 +10,7 @@ use Rattle.sst_blocks.specs.Opened.{none_opened}
 use Rattle.lsm_readers.proofs.ReadLaws.{does_known}
 use Rattle.lsm_readers.proofs.ReadViews.{does_by}
 use Rattle.lsm_readers.specs.point.Answer.{table_answer}
+use Rattle.sst_blocks.specs.Access.{in_memory}
 use Rattle.lsm_readers.specs.point.Read.{DoesRead}
 use Rattle.lsm_readers.specs.point.Table.{OpenTable}
 use Rattle.lsm_runs.specs.RunPlaces.{placed_in_run, placed_in_runs}
@@ -37,11 +38,11 @@ returns-clause-read g c runs there order =
     let here = sym is ∙ c.in-Some.ensures order in
     let younger = asked before t (sym (c.is_older_than.ensures runs there) ∙ c.if-is_older_than.false) in
     let read = result_map (option_map (entry_placed t.bytes)) next in
-    let does = does_by (option_map (entry_placed t.bytes)) next (table_answer t key n) none_opened own returned.returned returned.early returned.opened returned.calm in
+    let does = does_by (option_map (entry_placed t.bytes)) in_memory next (table_answer t key n) none_opened own returned.returned returned.early returned.opened returned.calm in
     let seen = ap (result_map (option_and_then (placed_in_run c.args.run.now))) c.found_in.ensures ∙ seen_there c.args.run.now t c.args.number c.in-Some.index is next returned.placed in
-    subst (λ (r : Result (Option Entry) Error). DoesRead r (run_read_behind key n before c.args.run.now) none_opened own) (sym seen)
-    (subst (λ (o : Option OpenTable). DoesRead read (table_read key n (worth_asking before o)) none_opened own) here
-    (subst (λ (o : Option OpenTable). DoesRead read (table_read key n o) none_opened own) (sym younger) does))
+    subst (λ (r : Result (Option Entry) Error). DoesRead in_memory r (run_read_behind key n before c.args.run.now) none_opened own) (sym seen)
+    (subst (λ (o : Option OpenTable). DoesRead in_memory read (table_read key n (worth_asking before o)) none_opened own) here
+    (subst (λ (o : Option OpenTable). DoesRead in_memory read (table_read key n o) none_opened own) (sym younger) does))
 
 pub returns-then-is_older_than-clause-read : goal.returns-then-is_older_than-clause-read
 returns-then-is_older_than-clause-read g c runs there order =
@@ -53,8 +54,8 @@ returns-then-is_older_than-clause-read g c runs there order =
     let here = sym is ∙ c.in-Some.ensures order in
     let older = not_asked before t (sym (c.is_older_than.ensures runs there) ∙ c.if-is_older_than.true) in
     rw c.none-then-is_older_than.ensures
-    (subst (λ (o : Option OpenTable). DoesRead (found_is None) (table_read key n (worth_asking before o)) none_opened none_opened) here
-    (subst (λ (o : Option OpenTable). DoesRead (found_is None) (table_read key n o) none_opened none_opened) (sym older) (does_known None none_opened)))
+    (subst (λ (o : Option OpenTable). DoesRead in_memory (found_is None) (table_read key n (worth_asking before o)) none_opened none_opened) here
+    (subst (λ (o : Option OpenTable). DoesRead in_memory (found_is None) (table_read key n o) none_opened none_opened) (sym older) (does_known in_memory None none_opened)))
 
 pub returns-clause-there : goal.returns-clause-there
 returns-clause-there g c =

@@ -84,7 +84,7 @@ returns-in-Err-clause-early g c order =
     let does = rw c.deref.ensures at (returned.ensures.read all before.there (rw c.deref.ensures own)) in
     let here = rw c.in-Err.is at (does_in_runs all (arc_value run) i at returned.result.0 (run_read_behind key n found (arc_value run)) returned.result.1 returned.ensures.number does) in
     let fault = reads_fault arc_value (run_read_behind key n) runs i run less c.index-runs-number.is found c.loop-number.opened returned.result.1 before.small (before.reads order) c.in-Err.error here in
-    fault.early
+    fault.early tt
 
 pub returns-in-Err-clause-calm : goal.returns-in-Err-clause-calm
 returns-in-Err-clause-calm g c order none =
@@ -151,7 +151,7 @@ returns-clause-opened g c order =
 
 pub returns-clause-early : goal.returns-clause-early
 returns-clause-early g c order =
-    (reads_all arc_value (run_read_behind c.args.key.now c.args.seqno) c.args.runs.now c.loop-number.number (option_and_then (placed_in_runs (map arc_value c.args.runs.now)) c.loop-number.found) c.loop-number.opened (c.loop-number.invariant.reads order) c.loop-number-test.false).early
+    (reads_all arc_value (run_read_behind c.args.key.now c.args.seqno) c.args.runs.now c.loop-number.number (option_and_then (placed_in_runs (map arc_value c.args.runs.now)) c.loop-number.found) c.loop-number.opened (c.loop-number.invariant.reads order) c.loop-number-test.false).early tt
 
 pub returns-clause-list : goal.returns-clause-list
 returns-clause-list g c lists held =

@@ -54,7 +54,7 @@ returns-in-Err-clause-early g c order =
     let returned = c.get_run_counted-returned in
     let own = all_at arc_value (IsInOrder range_of) runs i c.run-item.result order c.loop-run-test.true c.run-item.is in
     let here = rw c.in-Err.is at (rw c.deref.ensures at (returned.ensures.read (rw c.deref.ensures own))) in
-    (reads_fault arc_value (every_run c.args.key.now c.args.seqno) runs i c.run-item.result c.loop-run-test.true c.run-item.is c.loop-run.found c.loop-run.opened returned.result.1 before.small (before.reads order) c.in-Err.error here).early
+    (reads_fault arc_value (every_run c.args.key.now c.args.seqno) runs i c.run-item.result c.loop-run-test.true c.run-item.is c.loop-run.found c.loop-run.opened returned.result.1 before.small (before.reads order) c.in-Err.error here).early tt
 
 pub returns-in-Err-clause-calm : goal.returns-in-Err-clause-calm
 returns-in-Err-clause-calm g c order none =
@@ -100,4 +100,4 @@ pub returns-clause-few : goal.returns-clause-few
 returns-clause-few g c = all_each c.loop-run.run-index (length c.args.runs.now) c.loop-run.opened c.loop-run.invariant.few
 
 pub returns-clause-early : goal.returns-clause-early
-returns-clause-early g c order = (reads_all arc_value (every_run c.args.key.now c.args.seqno) c.args.runs.now c.loop-run.run-index c.loop-run.found c.loop-run.opened (c.loop-run.invariant.reads order) c.loop-run-test.false).early
+returns-clause-early g c order = (reads_all arc_value (every_run c.args.key.now c.args.seqno) c.args.runs.now c.loop-run.run-index c.loop-run.found c.loop-run.opened (c.loop-run.invariant.reads order) c.loop-run-test.false).early tt
