@@ -10,7 +10,7 @@ pub use Rattle.sst_blocks.specs.Block.{place_fault}
 pub use Rattle.sst_blocks.specs.Seeking.{KeepsLower, KeepsLowerEdge, KeepsUpper, KeepsUpperEdge}
 pub use Rattle.sst_blocks.specs.Seeking.{YieldsLeft, above_place, reaching_place, span_from}
 pub use Rattle.sst_blocks.specs.Seeking.{span_to, whole_span}
-pub use Rattle.lsm_iters.specs.block_index.Yielded.{YieldsEnding}
+pub use Rattle.lsm_iters.specs.block_index.Yielded.{YieldsEnding, YieldsFreely}
 pub use Rattle.lsm_iters.specs.block_index.Kinds.{BackGives, FrontGives, HasReader, IsReader}
 pub use Rattle.lsm_iters.specs.block_index.Kinds.{IsSought, SeekAnswers, TakesMemory, index_of}
 pub use Rattle.lsm_iters.specs.block_index.Kinds.{left_of}

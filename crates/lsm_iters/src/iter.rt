@@ -83,10 +83,8 @@ impl<A: Allocator + Clone> Iter<A> {
             index_iter in
             (spec.IsSought index_iter None None → ⊥) →
             IfOk result (λ i. i ≡ spec.with_sought true range) }
-        ensures yields { let gives = ⟦<Iter<A> as Iterator>⟧.next_gives in
-            let back_gives = ⟦<Iter<A> as DoubleEndedIterator>⟧.next_back_gives in
-            IfOk result (λ i. spec.YieldsEnding gives back_gives (λ _. Unit {0}) (λ _. Unit {0}) i
-            (spec.range_left i)) }
+        ensures yields { IfOk result (λ i. spec.YieldsFreely ⟦<Iter<A> as Iterator>⟧.next_gives
+            ⟦<Iter<A> as DoubleEndedIterator>⟧.next_back_gives i (spec.range_left i)) }
         ensures err { IfErr result (λ e. e ≡ spec.OutOfMemory) }
     {
         match compression {
@@ -112,10 +110,8 @@ impl<A: Allocator + Clone> Iter<A> {
     pub fn set_lower_bound(&mut self, bound: Bound<A>)
         ensures set { let of = record self.old.of { low = spec.edge_of bound } in
             self.new ≡ record self.old { of = of } }
-        ensures yields { let gives = ⟦<Iter<A> as Iterator>⟧.next_gives in
-            let back_gives = ⟦<Iter<A> as DoubleEndedIterator>⟧.next_back_gives in
-            spec.YieldsEnding gives back_gives (λ _. Unit {0}) (λ _. Unit {0}) self.new
-            (spec.range_left self.new) }
+        ensures yields { spec.YieldsFreely ⟦<Iter<A> as Iterator>⟧.next_gives
+            ⟦<Iter<A> as DoubleEndedIterator>⟧.next_back_gives self.new (spec.range_left self.new) }
     {
         drop(self.walk.parts.range.0.replace(bound));
     }
@@ -126,10 +122,8 @@ impl<A: Allocator + Clone> Iter<A> {
     pub fn set_upper_bound(&mut self, bound: Bound<A>)
         ensures set { let of = record self.old.of { high = spec.edge_of bound } in
             self.new ≡ record self.old { of = of } }
-        ensures yields { let gives = ⟦<Iter<A> as Iterator>⟧.next_gives in
-            let back_gives = ⟦<Iter<A> as DoubleEndedIterator>⟧.next_back_gives in
-            spec.YieldsEnding gives back_gives (λ _. Unit {0}) (λ _. Unit {0}) self.new
-            (spec.range_left self.new) }
+        ensures yields { spec.YieldsFreely ⟦<Iter<A> as Iterator>⟧.next_gives
+            ⟦<Iter<A> as DoubleEndedIterator>⟧.next_back_gives self.new (spec.range_left self.new) }
     {
         drop(self.walk.parts.range.1.replace(bound));
     }

@@ -132,9 +132,9 @@ pub(crate) fn near<A: Allocator>(walk: &RangeWalk<A>, at: Direction) -> &Option<
 // its sequence number overflows with the global one added.
 #[inline(always)]
 fn lends<A: Allocator>(walk: &RangeWalk<A>, at: Direction) -> Result<bool, Error>
-    ensures lifted { let stored = spec.option_map (λ e. Ok e)
-        (spec.lent_in (spec.near at walk.now)) in spec.came result (spec.lent_at at walk.now)
-        ≡ spec.lifted_answer walk.now.parts.of.global_seqno stored }
+    ensures lifted { spec.came result (spec.lent_at at walk.now) ≡
+        spec.lifted_answer walk.now.parts.of.global_seqno (spec.option_map (λ e. Ok e)
+        (spec.lent_in (spec.near at walk.now))) }
     ensures more { IfOk result (λ more. more ≡ is_some (spec.lent_at at walk.now)) }
     ensures fits { IfOk result (λ _. MatchOption (spec.lent_in (spec.near at walk.now)) (Unit {0})
         (λ e. e.seqno + walk.now.parts.of.global_seqno < 2 ^ 64)) }

@@ -54,3 +54,16 @@ pub record YieldsBelow {S T : Type 0} (front back : S → Option R → S → Typ
     (bound : ℕ) (next next_back : T → Option R → T → Type 0) (t : T) : Type 0 where
   pub yields : (stops : Error → Bool) (xs : List R) → YieldsExactly (answer_stops stops) front back source xs
       → YieldsExactly (answer_stops stops) next next_back t (below_results bound xs)
+
+-- before any call: for calls at both ends, the results of its source that pass are yielded
+abbrev pub YieldsItsBelow : {S : Type 0} (front back : S → Option R → S → Type 0)
+    (next next_back : Below S → Option R → Below S → Type 0) → Below S → Type 0
+YieldsItsBelow {S} front back next next_back s = (source : S) (bound : ℕ) →
+    s ≡ below_of bound source → YieldsBelow front back source bound next next_back s
+
+-- before any call: a call is allowed if the source may be called and is finite
+abbrev pub MayStartBelow : {S : Type 0} (front back : S → Option R → S → Type 0)
+    (can can_back : S → Type 0) → (S → Count) → (Below S → Type 0) → Below S → Type 0
+MayStartBelow {S} front back can can_back left can_next s = (source : S) (bound : ℕ) →
+    s ≡ below_of bound source → CanYield front back can can_back source →
+    IsFinite (left source) → can_next s

@@ -178,3 +178,25 @@ pub record Filters {F C : Type 0} (gives : F → Entry → Result Verdict Error 
   pub asks : Asks gives f head verdict g
   pub states : result ≡ told_by head verdict
   pub reports : GetsAll gets c (reports_by head verdict) d
+
+module _ {S F C : Type 0} where
+  -- the same for a stream's source: the next entries with a key were consumed and reported
+  abbrev pub DrainsFrom : {X : Type 0} → (Error → Bool) → (S → Option R → S → Type 0)
+      → (C → Entry → C → Type 0) → List ℕ → CompactionStream S F C R → C → Result X Error
+      → CompactionStream S F C R → Type 0
+  DrainsFrom stops front gets key s c result t = DrainsKey stops (HoldsAhead stops front) gets key
+      (source_of s) c result (source_of t) (callback_of t)
+
+  -- a head was settled from a stream's source
+  abbrev pub SettlesFrom : (Error → Bool) → (S → Option R → S → Type 0)
+      → (C → Entry → C → Type 0) → Entry → CompactionStream S F C R → Result Bool Error
+      → CompactionStream S F C R → Type 0
+  SettlesFrom stops front gets head s result t =
+      Settles stops (HoldsAhead stops front) gets (rules_of s) head (source_of s) (callback_of s)
+      result (source_of t) (callback_of t)
+
+  -- a step of a stream, which fails or goes on, by the results that its source returned in it
+  abbrev pub HearsAhead : {X : Type 0} → (S → Option R → S → Type 0) → Result X Error
+      → (List R → List R → Type 0) → CompactionStream S F C R → CompactionStream S F C R → Type 0
+  HearsAhead front result P s t =
+      Hears front Front (failure result) P (compaction_outlook s) (compaction_outlook t)

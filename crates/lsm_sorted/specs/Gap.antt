@@ -6,10 +6,10 @@ use Rattle.std.specs.Iterator.{Yields}
 use Rattle.sst_entries.specs.declared.error.Error.{Error}
 use Rattle.sst_entries.specs.declared.stream.Direction.{Direction}
 use Rattle.sst_entries.specs.Entry.{Entry}
-use Rattle.sst_entries.specs.Stream.{Runs, ok_results, yield_each}
+use Rattle.sst_entries.specs.Stream.{EndsAtError, Runs, nowhere, ok_results, yield_each}
 use Rattle.lsm_sorted.specs.merge.Ends.{R}
 use Rattle.lsm_sorted.specs.merge.Union.{all_errors, union_of}
-use Rattle.lsm_sorted.specs.merge.MergeLaws.{YieldSorted}
+use Rattle.lsm_sorted.specs.merge.MergeLaws.{YieldSorted, YieldsBeforeErrors, YieldsUntilError}
 use Rattle.lsm_sorted.specs.declared.compaction.Rules.{Rules}
 use Rattle.lsm_sorted.specs.Compaction.{outs, as_they_are}
 use Rattle.lsm_sorted.specs.Outlook.{StopsAtNone}
@@ -41,6 +41,13 @@ pub record MergesUpToGap {S T : Type 0} (front back : S → Option R → S → T
     (next next_back : T → Option R → T → Type 0) (t : T) : Type 0 where
   pub yields : (stops : Error → Bool) (lists : List (List R)) → YieldSorted front back stops its lists
       → YieldsUpToGap stops next next_back t (union_of lists) (all_errors lists)
+
+-- a merger that yields the union up to an error, and then nothing, leaves at most one gap in it
+abbrev pub ErrorsLeaveGap : {S T : Type 0} → (S → Option R → S → Type 0) → List S
+    → (T → Option R → T → Type 0) → T → Type 0
+ErrorsLeaveGap front its next t = YieldsBeforeErrors front nowhere its next nowhere t →
+    YieldsUntilError front nowhere its next nowhere t → EndsAtError next nowhere t →
+    MergesUpToGap front nowhere its next nowhere t
 
 -- an unfiltered compaction, called until `None`, yields the output for the union of sorted sources,
 -- or for the union with a gap

@@ -5,12 +5,13 @@ use Rattle.sst_entries.specs.declared.error.Error.{Error}
 use Rattle.sst_entries.specs.declared.stream.Direction.{Direction}
 use Rattle.sst_entries.specs.Entry.{Entry}
 use Rattle.sst_entries.specs.Stream.{Runs, NoneStops, YieldsExactly, CanYield, answer_stops, ok_results}
+use Rattle.sst_entries.specs.Stream.{nowhere}
 use Rattle.std.specs.Iterator.{IsFinite}
 use Rattle.lsm_sorted.specs.merge.Ends.{R, Goes}
 use Rattle.lsm_sorted.specs.merge.Union.{Ascends, newest}
 use Rattle.lsm_sorted.specs.declared.mvcc_stream.MvccStream.{MvccStream}
 use Rattle.lsm_sorted.specs.Newest.{newest_answers}
-use Rattle.lsm_sorted.specs.Outlook.{Outlook, IsStep}
+use Rattle.lsm_sorted.specs.Outlook.{Outlook, IsStep, before_any}
 use Rattle.lsm_sorted.specs.Hears.{Hears, Heard}
 use Rattle.lsm_sorted.specs.Peeked.{peeked_size, peeked_outlook}
 
@@ -65,3 +66,18 @@ module _ {S T : Type 0} (front back : S → Option R → S → Type 0) (source :
       (can_next can_next_back : T → Type 0) : Type 0 where
     pub asks : CanYield front back can can_back source → IsFinite (left source)
         → CanYield next next_back can_next can_next_back t
+
+-- the same for calls at the front only
+abbrev pub CanStepForward : {S T : Type 0} → (S → Option R → S → Type 0) → (S → Type 0)
+    → (S → Count) → S → (T → Option R → T → Type 0) → (T → Type 0) → T → Type 0
+CanStepForward front can left source next can_next t =
+    CanStep front nowhere source next nowhere t can can left can_next can_next
+
+-- before any call of a stream, this law holds of its source
+abbrev pub OnItsSource : {S : Type 0}
+    → (S → (MvccStream S R → Option R → MvccStream S R → Type 0)
+    → (MvccStream S R → Option R → MvccStream S R → Type 0) → MvccStream S R → Type 0)
+    → (next next_back : MvccStream S R → Option R → MvccStream S R → Type 0)
+    → MvccStream S R → Type 0
+OnItsSource {S} law next next_back s =
+    (source : S) → mvcc_outlook s ≡ before_any source → law source next next_back s

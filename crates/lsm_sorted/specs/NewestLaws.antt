@@ -2,6 +2,7 @@
 use Rattle.std.specs.Prelude.{◌≡◌, Bool, List, [], All, Option}
 use Rattle.std.specs.Iterator.{Count, IsFinite}
 use Rattle.sst_entries.specs.Stream.{Runs, YieldsExactly, CanYield, answer_stops, ok_results, EndsAtError}
+use Rattle.sst_entries.specs.Stream.{nowhere}
 use Rattle.sst_entries.specs.declared.error.Error.{Error}
 use Rattle.sst_entries.specs.declared.stream.Direction.{Direction}
 use Rattle.sst_entries.specs.declared.stream.Direction.TheVariants.{Front, Back}
@@ -30,6 +31,19 @@ pub record CanAskNewest {S T : Type 0} (front back : S → Option R → S → Ty
     (t : T) : Type 0 where
   pub asks : All (CanYield front back can can_back) its → All (λ s. IsFinite (left s)) its
       → CanYield next next_back can_next can_next_back t
+
+-- the same for calls at the front only
+abbrev pub CanAskForward : {S T : Type 0} → (S → Option R → S → Type 0) → (S → Type 0)
+    → (S → Count) → List S → (T → Option R → T → Type 0) → (T → Type 0) → T → Type 0
+CanAskForward front can left its next can_next =
+    CanAskNewest front nowhere can can left its next nowhere can_next can_next
+
+-- before any call: a call is allowed if the sources may be called and are finite
+abbrev pub MayStartNewest : {S A : Type 0} (front back : S → Option R → S → Type 0)
+    (can can_back : S → Type 0) → (S → Count) → (MvccStream (Merger S A) R → Type 0)
+    → MvccStream (Merger S A) R → Type 0
+MayStartNewest {S} front back can can_back left can_next s = (its : List S) → IsNewestOf its s →
+    All (CanYield front back can can_back) its → All (λ i. IsFinite (left i)) its → can_next s
 
 module _ {S : Type 0} (front back : S → Option R → S → Type 0) (its : List S) where
   module _ {T : Type 0} (next next_back : T → Option R → T → Type 0) (t : T) where

@@ -5,7 +5,8 @@ pub use Rattle.sst_entries.specs.Key.{key_cmp, key_lt, same_key}
 pub use Rattle.sst_entries.specs.Stream.{CanYield, EndsAtError, Lowers, Steps, YieldsExactly}
 pub use Rattle.sst_entries.specs.Stream.{YieldsFirst, YieldsLast, answer_stops, back_of, front_of}
 pub use Rattle.sst_entries.specs.Stream.{nowhere}
-pub use Rattle.lsm_sorted.specs.merge.Ends.{Asked, Goes, Left, R, YieldsAt, ends_size, new_ends}
+pub use Rattle.lsm_sorted.specs.merge.Ends.{Asked, CanAdvance, Goes, Left, R, YieldsAt, ends_size}
+pub use Rattle.lsm_sorted.specs.merge.Ends.{new_ends}
 pub use Rattle.lsm_sorted.specs.Ahead.{HoldsAhead, ahead_outlook, ahead_size}
 pub use Rattle.lsm_sorted.specs.Outlook.{IsStep, before_any}
 pub use Rattle.lsm_sorted.specs.Hears.{Hears}
@@ -14,8 +15,8 @@ pub use Rattle.lsm_sorted.specs.Compaction.{Verdict, goes, is_value, keep, repor
 pub use Rattle.lsm_sorted.specs.Compaction.{zeroed}
 pub use Rattle.lsm_sorted.specs.Compacting.{Asks, GetsAll}
 pub use Rattle.lsm_sorted.specs.CompactionState.{Compacts, CompactsHeard, CompactsNext}
-pub use Rattle.lsm_sorted.specs.CompactionState.{CompactsWhole, DrainsIn, DrainsKey, Filters}
-pub use Rattle.lsm_sorted.specs.CompactionState.{GivesOuts, MayCompact, Settles, SettlesIn}
+pub use Rattle.lsm_sorted.specs.CompactionState.{CompactsWhole, DrainsFrom, DrainsIn, Filters, HearsAhead}
+pub use Rattle.lsm_sorted.specs.CompactionState.{GivesOuts, MayCompact, SettlesFrom, SettlesIn}
 pub use Rattle.lsm_sorted.specs.CompactionState.{YieldsKept, YieldsOuts, answer_of, callback_of}
 pub use Rattle.lsm_sorted.specs.CompactionState.{compaction_outlook, compaction_size, failure}
 pub use Rattle.lsm_sorted.specs.CompactionState.{filter_of, rules_of, source_of}
@@ -38,16 +39,18 @@ pub use Rattle.sst_entries.specs.declared.error.Error.{Error}
 pub use Rattle.sst_entries.specs.declared.error.Error.TheVariants.{OutOfMemory}
 pub use Rattle.sst_entries.specs.declared.stream.Direction.{Direction}
 pub use Rattle.sst_entries.specs.declared.stream.Direction.TheVariants.{Back, Front}
-pub use Rattle.lsm_sorted.specs.Below.{GivesBelow, MayAsk, YieldsBelow, below_of}
-pub use Rattle.lsm_sorted.specs.Gap.{MergesUpToGap}
+pub use Rattle.lsm_sorted.specs.Below.{GivesBelow, MayAsk, MayStartBelow, YieldsBelow, YieldsItsBelow}
+pub use Rattle.lsm_sorted.specs.Below.{below_of}
+pub use Rattle.lsm_sorted.specs.Gap.{ErrorsLeaveGap, MergesUpToGap}
 pub use Rattle.lsm_sorted.specs.Leading.{leading_of}
 pub use Rattle.lsm_sorted.specs.LentBelow.{LendsBelow, MayLendBelow, lent_below, lent_passes}
 pub use Rattle.lsm_sorted.specs.LentBelow.{only_below}
-pub use Rattle.lsm_sorted.specs.Mvcc.{AnswersSteps, CanStep, MayStep, StepsAt, YieldsNewestOf}
-pub use Rattle.lsm_sorted.specs.Mvcc.{YieldsSteps, mvcc_outlook, mvcc_size, read_from}
+pub use Rattle.lsm_sorted.specs.Mvcc.{AnswersSteps, CanStep, CanStepForward, MayStep, OnItsSource, StepsAt}
+pub use Rattle.lsm_sorted.specs.Mvcc.{YieldsNewestOf, YieldsSteps, mvcc_outlook, mvcc_size, read_from}
 pub use Rattle.lsm_sorted.specs.Newest.{back_step, front_step}
-pub use Rattle.lsm_sorted.specs.NewestLaws.{AnswersNewest, CanAskNewest, IsNewestOf, IsOverMerged}
-pub use Rattle.lsm_sorted.specs.NewestLaws.{YieldsNewest, YieldsNewestUntilError}
+pub use Rattle.lsm_sorted.specs.NewestLaws.{AnswersNewest, CanAskForward, CanAskNewest, IsNewestOf}
+pub use Rattle.lsm_sorted.specs.NewestLaws.{IsOverMerged, MayStartNewest, YieldsNewest}
+pub use Rattle.lsm_sorted.specs.NewestLaws.{YieldsNewestUntilError}
 pub use Rattle.lsm_sorted.specs.Peeked.{peeked_outlook, peeked_size}
 pub use Rattle.lsm_sorted.specs.declared.compaction.lending.Lends.TheVariants.{Nothing}
 pub use Rattle.lsm_sorted.specs.declared.version.optimize.Link.{Link}
@@ -57,7 +60,8 @@ pub use Rattle.lsm_sorted.specs.lending.Lent.{StepsOn, goes_before, is_queued, i
 pub use Rattle.lsm_sorted.specs.lending.Lent.{sorts_before, lent_of, lent_first, lent_size, lent_total, queued}
 pub use Rattle.lsm_sorted.specs.lending.LentCompaction.{AdvancesCompacted, CompactsLent}
 pub use Rattle.lsm_sorted.specs.lending.LentCompaction.{CompactsLentResults, FetchesCompacted}
-pub use Rattle.lsm_sorted.specs.lending.LentCompaction.{MayLendCompacted, SettlesCompacted}
+pub use Rattle.lsm_sorted.specs.lending.LentCompaction.{MayLendCompacted, SettlesCompacted, SettlesLent}
+pub use Rattle.lsm_sorted.specs.lending.LentCompaction.{SettlesWaiting}
 pub use Rattle.lsm_sorted.specs.lending.LentCompaction.{StepsCompacted, YieldsCompactedEntries}
 pub use Rattle.lsm_sorted.specs.lending.LentCompaction.{YieldsCompactedResults, compacted_left}
 pub use Rattle.lsm_sorted.specs.lending.LentCompaction.{fresh_of, has_to_wait, lender}
@@ -73,15 +77,15 @@ pub use Rattle.lsm_sorted.specs.merge.Asks.{AsksSource, Calls, Fills, HoldsNone,
 pub use Rattle.lsm_sorted.specs.merge.Asks.{made_ready}
 pub use Rattle.lsm_sorted.specs.merge.Bag.{IsGreatest, IsLeast}
 pub use Rattle.lsm_sorted.specs.merge.Brackets.{AreKept, IsBracket, IsKept, IsUnbeaten, IsUnplayed}
-pub use Rattle.lsm_sorted.specs.merge.Brackets.{IsWon, PlaysEnd, WasWon, is_beaten, is_played_at}
+pub use Rattle.lsm_sorted.specs.merge.Brackets.{IsWon, PlaysEnd, WasWon, is_beaten, is_played_at, most_steps}
 pub use Rattle.lsm_sorted.specs.merge.Intervals.{InOrder, IsChildEnd, IsEnd, IsIntervalHeap}
 pub use Rattle.lsm_sorted.specs.merge.Intervals.{IsRisingAt, IsRoot, IsSinkingAt, PrecedesOn}
 pub use Rattle.lsm_sorted.specs.merge.Intervals.{SinksFrom, above_of}
 pub use Rattle.lsm_sorted.specs.merge.Merge.{Adds, HasPlaces, HoldsAtMost, LowersTotal, MayMerge}
 pub use Rattle.lsm_sorted.specs.merge.Merge.{SameRoom, entry_of, is_ready, merge_size, turn_cmp}
 pub use Rattle.lsm_sorted.specs.merge.Merge.{turn_total}
-pub use Rattle.lsm_sorted.specs.merge.MergeLaws.{CanMerge, MeetsErrorsLate, YieldsBeforeErrors}
-pub use Rattle.lsm_sorted.specs.merge.MergeLaws.{YieldsInPlace, YieldsMerged, YieldsUntilError}
+pub use Rattle.lsm_sorted.specs.merge.MergeLaws.{CanMerge, CanMergeForward, MeetsErrorsLate, OfItsSources}
+pub use Rattle.lsm_sorted.specs.merge.MergeLaws.{YieldsBeforeErrors, YieldsInPlace, YieldsMerged, YieldsUntilError}
 pub use Rattle.lsm_sorted.specs.merge.Order.{toward}
 pub use Rattle.lsm_sorted.specs.merge.Slots.{occupants, slot_at}
 pub use Rattle.lsm_sorted.specs.merge.Tournament.{PlaysAtMost, PlaysFrom, SameEnds, first_round}
@@ -91,8 +95,8 @@ pub use Rattle.lsm_sorted.specs.version.KeyRange.{Interval, IsAggregate, IsOutsi
 pub use Rattle.lsm_sorted.specs.version.KeyRange.{are_disjoint, has_key, has_range, interval}
 pub use Rattle.lsm_sorted.specs.version.KeyRange.{intervals, is_well_formed, key_bound, key_le}
 pub use Rattle.lsm_sorted.specs.version.KeyRange.{overlaps, overlaps_bounds}
-pub use Rattle.lsm_sorted.specs.version.LinkedRuns.{AreAtPlaces, AreEarlier, ArePackedLinks}
-pub use Rattle.lsm_sorted.specs.version.LinkedRuns.{IsBelow, link_range}
+pub use Rattle.lsm_sorted.specs.version.LinkedRuns.{AddsLinks, AreAtPlaces, AreEarlier, ArePackedLinks}
+pub use Rattle.lsm_sorted.specs.version.LinkedRuns.{FindsLinkTo, IsBelow, link_range}
 pub use Rattle.lsm_sorted.specs.version.Links.{IsStack, TableWithPlace, run_with_places}
 pub use Rattle.lsm_sorted.specs.version.Links.{runs_with_places}
 pub use Rattle.lsm_sorted.specs.version.Packed.{IsPackedOf, alone, indexed}

@@ -32,10 +32,8 @@ impl<I: Iterator<Item = IterItem<A>>, A: Allocator> Below<I> {
         // and the errors.
         ensures yields { spec.YieldsBelow I.next_gives spec.nowhere iter seqno
             ⟦<Below<I> as Iterator>⟧.next_gives spec.nowhere result }
-        ensures can { spec.CanStep I.next_gives spec.nowhere iter
-            ⟦<Below<I> as Iterator>⟧.next_gives spec.nowhere
-            result I.can_next I.can_next I.remaining ⟦<Below<I> as Iterator>⟧.can_next
-            ⟦<Below<I> as Iterator>⟧.can_next }
+        ensures can { spec.CanStepForward I.next_gives I.can_next I.remaining iter
+            ⟦<Below<I> as Iterator>⟧.next_gives ⟦<Below<I> as Iterator>⟧.can_next result }
         // A `for` loop may iterate over it.
         ensures next { spec.CanYield I.next_gives spec.nowhere I.can_next I.can_next iter →
             spec.IsFinite (I.remaining iter) → ⟦<Below<I> as Iterator>⟧.can_next result }
@@ -49,23 +47,19 @@ impl<I: DoubleEndedIterator<Item = IterItem<A>>, A: Allocator> Below<I> {
     ///
     /// The call does nothing: its contract states the law.
     pub fn from_both_ends(&self)
-        ensures yields { (iter : I) (seqno : _) → self.now ≡ spec.below_of seqno iter →
-            spec.YieldsBelow I.next_gives I.next_back_gives iter seqno
-            ⟦<Below<I> as Iterator>⟧.next_gives
-            ⟦<Below<I> as DoubleEndedIterator>⟧.next_back_gives self.now }
+        ensures yields { spec.YieldsItsBelow I.next_gives I.next_back_gives
+            ⟦<Below<I> as Iterator>⟧.next_gives ⟦<Below<I> as DoubleEndedIterator>⟧.next_back_gives
+            self.now }
         ensures can { (iter : I) (seqno : _) → self.now ≡ spec.below_of seqno iter →
             spec.CanStep I.next_gives I.next_back_gives iter ⟦<Below<I> as Iterator>⟧.next_gives
             ⟦<Below<I> as DoubleEndedIterator>⟧.next_back_gives self.now I.can_next I.can_next_back
             I.remaining ⟦<Below<I> as Iterator>⟧.can_next
             ⟦<Below<I> as DoubleEndedIterator>⟧.can_next_back }
         // A `for` loop may iterate over it, from the front or from the back.
-        ensures next { (iter : I) (seqno : _) → self.now ≡ spec.below_of seqno iter →
-            spec.CanYield I.next_gives I.next_back_gives I.can_next I.can_next_back iter →
-            spec.IsFinite (I.remaining iter) → ⟦<Below<I> as Iterator>⟧.can_next self.now }
-        ensures next_back { (iter : I) (seqno : _) → self.now ≡ spec.below_of seqno iter →
-            spec.CanYield I.next_gives I.next_back_gives I.can_next I.can_next_back iter →
-            spec.IsFinite (I.remaining iter) →
-            ⟦<Below<I> as DoubleEndedIterator>⟧.can_next_back self.now }
+        ensures next { spec.MayStartBelow I.next_gives I.next_back_gives I.can_next I.can_next_back
+            I.remaining ⟦<Below<I> as Iterator>⟧.can_next self.now }
+        ensures next_back { spec.MayStartBelow I.next_gives I.next_back_gives I.can_next
+            I.can_next_back I.remaining ⟦<Below<I> as DoubleEndedIterator>⟧.can_next_back self.now }
     {}
 }
 
@@ -114,9 +108,9 @@ impl<L: Lending> Below<L> {
         ensures yields { spec.YieldsBelow L.advances spec.nowhere source seqno
             ⟦<Below<L> as Lending>⟧.advances spec.nowhere result }
         // It can be advanced as often as the source can.
-        ensures can { spec.CanYield L.advances spec.nowhere L.can_advance L.can_advance source →
-            spec.CanYield ⟦<Below<L> as Lending>⟧.advances spec.nowhere
-            ⟦<Below<L> as Lending>⟧.can_advance ⟦<Below<L> as Lending>⟧.can_advance result }
+        ensures can { spec.CanAdvance L.advances L.can_advance source →
+            spec.CanAdvance ⟦<Below<L> as Lending>⟧.advances ⟦<Below<L> as Lending>⟧.can_advance
+            result }
         ensures advance { spec.CanYield L.advances spec.nowhere L.can_advance L.can_advance source →
             ⟦<Below<L> as Lending>⟧.can_advance result }
     {

@@ -12,14 +12,8 @@ use std::alloc::Allocator;
 /// error. This follows from the contract of [`Merger::new`]. The call does nothing: its contract
 /// states the law.
 pub fn up_to_gap<I: Iterator<Item = IterItem<A>>, A: Allocator>(merger: &Merger<I, A>)
-    ensures { (its : List I) →
-        spec.YieldsBeforeErrors I.next_gives spec.nowhere its
-        ⟦<Merger<I, A> as Iterator>⟧.next_gives spec.nowhere merger.now →
-        spec.YieldsUntilError I.next_gives spec.nowhere its ⟦<Merger<I, A> as Iterator>⟧.next_gives
-        spec.nowhere merger.now →
-        spec.EndsAtError ⟦<Merger<I, A> as Iterator>⟧.next_gives spec.nowhere merger.now →
-        spec.MergesUpToGap I.next_gives spec.nowhere its ⟦<Merger<I, A> as Iterator>⟧.next_gives
-        spec.nowhere merger.now }
+    ensures { (its : List I) → spec.ErrorsLeaveGap I.next_gives its
+        ⟦<Merger<I, A> as Iterator>⟧.next_gives merger.now }
 {
     let _ = merger;
 }

@@ -94,10 +94,8 @@ impl<L: Lending + Drop, A: Allocator> LendingMerger<L, A> {
         ensures ends { IfOk result (λ m. spec.EndsAtError
             ⟦<LendingMerger<L, A> as Lending>⟧.advances spec.nowhere m) }
         // It can be advanced as often as its sources can.
-        ensures can { All (spec.CanYield L.advances spec.nowhere L.can_advance L.can_advance)
-            sources.items →
-            IfOk result (spec.CanYield ⟦<LendingMerger<L, A> as Lending>⟧.advances spec.nowhere
-            ⟦<LendingMerger<L, A> as Lending>⟧.can_advance
+        ensures can { All (spec.CanAdvance L.advances L.can_advance) sources.items →
+            IfOk result (spec.CanAdvance ⟦<LendingMerger<L, A> as Lending>⟧.advances
             ⟦<LendingMerger<L, A> as Lending>⟧.can_advance) }
         ensures advance { All (spec.CanYield L.advances spec.nowhere L.can_advance L.can_advance)
             sources.items → IfOk result ⟦<LendingMerger<L, A> as Lending>⟧.can_advance }

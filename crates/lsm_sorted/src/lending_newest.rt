@@ -46,9 +46,8 @@ impl<L: Lending, A: Allocator> LendingNewest<L, A> {
         ensures over { spec.AlwaysReports spec.StaysOver L.advances source spec.newest_lender
             ⟦<LendingNewest<L, A> as Lending>⟧.advances result }
         // It can be advanced as often as the source can.
-        ensures can { spec.CanYield L.advances spec.nowhere L.can_advance L.can_advance source →
-            spec.CanYield ⟦<LendingNewest<L, A> as Lending>⟧.advances spec.nowhere
-            ⟦<LendingNewest<L, A> as Lending>⟧.can_advance
+        ensures can { spec.CanAdvance L.advances L.can_advance source →
+            spec.CanAdvance ⟦<LendingNewest<L, A> as Lending>⟧.advances
             ⟦<LendingNewest<L, A> as Lending>⟧.can_advance result }
         ensures advance { spec.CanYield L.advances spec.nowhere L.can_advance L.can_advance source →
             ⟦<LendingNewest<L, A> as Lending>⟧.can_advance result }

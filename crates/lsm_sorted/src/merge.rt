@@ -171,11 +171,9 @@ impl<I: Iterator<Item = IterItem<A>>, A: Allocator + Clone> Merger<I, A> {
             spec.IsUnion lists (spec.union_of lists)) }
         ensures only { IfOk result (λ _. (lists : List (List spec.R)) (xs : List spec.Entry) →
             spec.IsUnion lists xs → spec.IsStrict xs → xs ≡ spec.union_of lists) }
-        ensures can { IfOk result (λ m.
-            spec.CanMerge I.next_gives spec.nowhere I.can_next I.can_next I.remaining
-            iterators.items
-            ⟦<Merger<I, A> as Iterator>⟧.next_gives spec.nowhere
-            ⟦<Merger<I, A> as Iterator>⟧.can_next ⟦<Merger<I, A> as Iterator>⟧.can_next m) }
+        ensures can { IfOk result (λ m. spec.CanMergeForward I.next_gives I.can_next I.remaining
+            iterators.items ⟦<Merger<I, A> as Iterator>⟧.next_gives
+            ⟦<Merger<I, A> as Iterator>⟧.can_next m) }
         ensures few { IfOk result (λ m. spec.HoldsAtMost 1 ⟦<Merger<I, A> as Iterator>⟧.next_gives
             spec.nowhere m) }
         ensures err { IfErr result (λ e. e ≡ spec.OutOfMemory) }
@@ -202,18 +200,15 @@ pub fn from_both_ends<I: DoubleEndedIterator<Item = IterItem<A>>, A: Allocator>(
     merger: &Merger<I, A>,
 )
     // For sorted sources without errors, it yields their merged entries in order.
-    ensures yields { (its : List I) → spec.IsMergerOf its merger.now →
-        spec.YieldsMerged I.next_gives I.next_back_gives its
+    ensures yields { spec.OfItsSources (spec.YieldsMerged I.next_gives I.next_back_gives)
         ⟦<Merger<I, A> as Iterator>⟧.next_gives
         ⟦<Merger<I, A> as DoubleEndedIterator>⟧.next_back_gives merger.now }
     // With any errors, it yields the same until a call returns one.
-    ensures before { (its : List I) → spec.IsMergerOf its merger.now →
-        spec.YieldsBeforeErrors I.next_gives I.next_back_gives its
+    ensures before { spec.OfItsSources (spec.YieldsBeforeErrors I.next_gives I.next_back_gives)
         ⟦<Merger<I, A> as Iterator>⟧.next_gives
         ⟦<Merger<I, A> as DoubleEndedIterator>⟧.next_back_gives merger.now }
     // With errors, it yields the same until a source returns one, and that call returns the error.
-    ensures until { (its : List I) → spec.IsMergerOf its merger.now →
-        spec.YieldsUntilError I.next_gives I.next_back_gives its
+    ensures until { spec.OfItsSources (spec.YieldsUntilError I.next_gives I.next_back_gives)
         ⟦<Merger<I, A> as Iterator>⟧.next_gives
         ⟦<Merger<I, A> as DoubleEndedIterator>⟧.next_back_gives merger.now }
     // With calls at the front only, an error comes after the entries before it in its source. The

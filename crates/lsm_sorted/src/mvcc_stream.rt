@@ -54,10 +54,8 @@ impl<I: Iterator<Item = IterItem<A>>, A: Allocator> MvccStream<I> {
         // For sorted entries, it yields the newest version of each key.
         ensures newest { spec.YieldsNewestOf I.next_gives spec.nowhere iter
             ⟦<MvccStream<I> as Iterator>⟧.next_gives spec.nowhere result }
-        ensures can { spec.CanStep I.next_gives spec.nowhere iter
-            ⟦<MvccStream<I> as Iterator>⟧.next_gives spec.nowhere result
-            I.can_next I.can_next I.remaining
-            ⟦<MvccStream<I> as Iterator>⟧.can_next ⟦<MvccStream<I> as Iterator>⟧.can_next }
+        ensures can { spec.CanStepForward I.next_gives I.can_next I.remaining iter
+            ⟦<MvccStream<I> as Iterator>⟧.next_gives ⟦<MvccStream<I> as Iterator>⟧.can_next result }
     {
         MvccStream {
             inner: Peeked::new(iter),
@@ -79,16 +77,13 @@ impl<I: DoubleEndedIterator<Item = IterItem<A>>, A: Allocator> MvccStream<I> {
     ///
     /// The call does nothing: its contract states the law.
     pub fn from_both_ends(&self)
-        ensures heard { (iter : I) → spec.mvcc_outlook self.now ≡ spec.before_any iter →
-            spec.AnswersSteps I.next_gives I.next_back_gives iter
+        ensures heard { spec.OnItsSource (spec.AnswersSteps I.next_gives I.next_back_gives)
             ⟦<MvccStream<I> as Iterator>⟧.next_gives
             ⟦<MvccStream<I> as DoubleEndedIterator>⟧.next_back_gives self.now }
-        ensures steps { (iter : I) → spec.mvcc_outlook self.now ≡ spec.before_any iter →
-            spec.YieldsSteps I.next_gives I.next_back_gives iter
+        ensures steps { spec.OnItsSource (spec.YieldsSteps I.next_gives I.next_back_gives)
             ⟦<MvccStream<I> as Iterator>⟧.next_gives
             ⟦<MvccStream<I> as DoubleEndedIterator>⟧.next_back_gives self.now }
-        ensures newest { (iter : I) → spec.mvcc_outlook self.now ≡ spec.before_any iter →
-            spec.YieldsNewestOf I.next_gives I.next_back_gives iter
+        ensures newest { spec.OnItsSource (spec.YieldsNewestOf I.next_gives I.next_back_gives)
             ⟦<MvccStream<I> as Iterator>⟧.next_gives
             ⟦<MvccStream<I> as DoubleEndedIterator>⟧.next_back_gives self.now }
         ensures can { (iter : I) → spec.mvcc_outlook self.now ≡ spec.before_any iter →

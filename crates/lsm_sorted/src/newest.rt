@@ -37,13 +37,12 @@ pub fn newest_of<I: Iterator<Item = IterItem<A>>, A: Allocator + Clone>(
         ⟦<NewestOf<I, A> as Iterator>⟧.next_gives spec.nowhere) }
     ensures over { IfOk result (spec.IsOverMerged I.next_gives spec.nowhere iterators.items
         ⟦<Merger<I, A> as Iterator>⟧.next_gives spec.nowhere) }
-    ensures can { IfOk result (spec.CanAskNewest I.next_gives spec.nowhere I.can_next I.can_next
-        I.remaining iterators.items ⟦<NewestOf<I, A> as Iterator>⟧.next_gives spec.nowhere
-        ⟦<NewestOf<I, A> as Iterator>⟧.can_next
+    ensures can { IfOk result (spec.CanAskForward I.next_gives I.can_next I.remaining
+        iterators.items ⟦<NewestOf<I, A> as Iterator>⟧.next_gives
         ⟦<NewestOf<I, A> as Iterator>⟧.can_next) }
     // A `for` loop may iterate over it.
-    ensures next { All (spec.CanYield I.next_gives spec.nowhere I.can_next I.can_next)
-        iterators.items → All (λ i. spec.IsFinite (I.remaining i)) iterators.items →
+    ensures next { All (spec.CanAdvance I.next_gives I.can_next) iterators.items →
+        All (λ i. spec.IsFinite (I.remaining i)) iterators.items →
         IfOk result (λ s. ⟦<NewestOf<I, A> as Iterator>⟧.can_next s) }
     ensures err { IfErr result (λ e. e ≡ spec.OutOfMemory) }
 {
@@ -81,14 +80,11 @@ pub fn newest_from_both_ends<I: DoubleEndedIterator<Item = IterItem<A>>, A: Allo
         ⟦<NewestOf<I, A> as Iterator>⟧.can_next
         ⟦<NewestOf<I, A> as DoubleEndedIterator>⟧.can_next_back stream.now }
     // A `for` loop may iterate over it, from the front or from the back.
-    ensures next { (its : List I) → spec.IsNewestOf its stream.now →
-        All (spec.CanYield I.next_gives I.next_back_gives I.can_next I.can_next_back) its →
-        All (λ i. spec.IsFinite (I.remaining i)) its →
-        ⟦<NewestOf<I, A> as Iterator>⟧.can_next stream.now }
-    ensures next_back { (its : List I) → spec.IsNewestOf its stream.now →
-        All (spec.CanYield I.next_gives I.next_back_gives I.can_next I.can_next_back) its →
-        All (λ i. spec.IsFinite (I.remaining i)) its →
-        ⟦<NewestOf<I, A> as DoubleEndedIterator>⟧.can_next_back stream.now }
+    ensures next { spec.MayStartNewest I.next_gives I.next_back_gives I.can_next I.can_next_back
+        I.remaining ⟦<NewestOf<I, A> as Iterator>⟧.can_next stream.now }
+    ensures next_back { spec.MayStartNewest I.next_gives I.next_back_gives I.can_next
+        I.can_next_back I.remaining ⟦<NewestOf<I, A> as DoubleEndedIterator>⟧.can_next_back
+        stream.now }
 {
     from_both_ends(stream.source());
     stream.from_both_ends();

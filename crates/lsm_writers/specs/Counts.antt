@@ -19,6 +19,7 @@ use Rattle.sst_blocks.specs.table.Index.{data_section}
 use Rattle.sst_blocks.specs.table.MetaBlock.{BlockCounts, meta_items}
 use Rattle.sst_blocks.specs.declared.table.options.Options.{Options}
 use Rattle.sst_blocks.specs.declared.table.label.Label.{Label}
+use Rattle.lsm_writers.specs.declared.writer.meta_block.BlockCounts.{BlockCounts as CountedBlocks}
 
 -- the counts of an empty list
 abbrev pub no_counts : {A : Type 0} → Metadata A
@@ -109,6 +110,10 @@ counted_facts m = record {
   lowest = m.lowest_seqno;
   highest = m.highest_seqno;
 }
+
+-- the numbers of index and filter blocks
+abbrev pub block_counts : CountedBlocks → BlockCounts
+block_counts counts = record { index = counts.index; filter = counts.filter }
 
 -- the items of the meta block, from these counts
 unfoldable pub counted_items : {A : Type 0} → Label → Options → BlockCounts → Metadata A → List

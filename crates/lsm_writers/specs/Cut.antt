@@ -17,7 +17,7 @@ use Rattle.lsm_writers.specs.declared.writer.meta.Metadata.{Metadata}
 use Rattle.lsm_writers.specs.section.Registered.{Registered}
 use Rattle.sst_blocks.specs.table.Chunks.{joined}
 use Rattle.sst_blocks.specs.table.Facts.{last_key}
-use Rattle.sst_blocks.specs.table.Index.{handles, data_section}
+use Rattle.sst_blocks.specs.table.Index.{handles, data_section, last_entry}
 
 -- the chunks of the blocks cut so far, and whether a cut failed
 pub record Cut : Type 0 where
@@ -54,6 +54,17 @@ pub record AreCut (chunks : List (List Entry)) (w : Written) (hs : List Handle)
 -- the same for the handles and the failure flag of an index writer
 abbrev pub AreCutBy : List (List Entry) → Written → Registered → Option Entry → Type 0
 AreCutBy chunks w index last = AreCut chunks w index.handles last index.failed
+
+-- a block of these entries follows those cut so far, if the list stays strict
+abbrev pub AddsChunk : Written → Registered → List Entry → Written → Registered → Type 0
+AddsChunk w index es w' index' = (chunks : List (List Entry)) → (before : Option Entry) →
+    AreCutBy chunks w index before → IsStrict (joined chunks ++ es) →
+    AreCutBy (chunks ++ es ∷ []) w' index' (Some (last_entry es))
+
+-- the blocks cut so far stay
+abbrev pub LeavesChunks : Written → Registered → Written → Registered → Type 0
+LeavesChunks w index w' index' = (chunks : List (List Entry)) → (before : Option Entry) →
+    AreCutBy chunks w index before → AreCutBy chunks w' index' before
 
 -- these entries can be cut as the next block
 pub record CanCut (w : Written) (hs : List Handle) (failed : Bool) (es : List Entry) : Type 0 where

@@ -21,6 +21,8 @@ use Rattle.lsm_writers.specs.declared.section.filter_either.FilterWriterImpl.{Fi
 use Rattle.lsm_writers.specs.Counts.{HasShortKeys, metadata_of}
 use Rattle.lsm_writers.specs.Cut.{Cut, with_cut}
 use Rattle.lsm_writers.specs.Filtering.{MayHaveKeys}
+use Rattle.lsm_writers.specs.Writing.{Writing, cut_writing}
+use Rattle.sst_blocks.specs.declared.table.label.Label.{Label}
 
 -- a nonempty chunk of which no proper nonempty prefix is full
 pub record IsShortest (size : ℕ) (c : List Entry) : Type 0 where
@@ -59,6 +61,11 @@ IsTaken true chunk cut meta pending size cut' meta' =
     (pending ≡ []) × (size ≡ 0) × (cut'.chunks ≡ cut.chunks ++ chunk ∷ [])
     × (cut'.failed ≡ false) × (meta' ≡ with_cut cut'.chunks meta)
 
+-- the same, cut if the entries are full at this size
+abbrev pub IsTakenWhenFull : {A : Type 0} → ℕ → List Entry → Cut → Metadata A → List Entry → ℕ
+    → Cut → Metadata A → Type 0
+IsTakenWhenFull full_at chunk = IsTaken (is_full full_at chunk) chunk
+
 -- the parts from which a table is finished: data section, index, filter and counts of these chunks
 pub record AreTableParts {A : Type 0} (options : Options) (cut : List (List Entry))
     (front : Written) (index : IndexWriterImpl A) (filter : Option (FilterWriterImpl A))
@@ -72,6 +79,12 @@ pub record AreTableParts {A : Type 0} (options : Options) (cut : List (List Entr
   pub counted : meta ≡ metadata_of V4 cut []
   pub short : HasShortKeys meta
   pub blocks : AllByRecursion (BlockFits V4) cut
+
+-- if these are the parts of a table, this holds of the writer that cut its chunks
+abbrev pub ForTableParts : {A : Type 0} → Label → Options → Written → IndexWriterImpl A
+    → Option (FilterWriterImpl A) → Metadata A → (Writing → Type 0) → Type 0
+ForTableParts label options front index filter meta P = (cut : List (List Entry)) →
+    AreTableParts options cut front index filter meta → P (cut_writing label options cut)
 
 -- these are the parts of a table for some chunks
 pub record HaveParts {A : Type 0} (options : Options) (front : Written) (index : IndexWriterImpl A)

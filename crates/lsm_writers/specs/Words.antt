@@ -23,12 +23,13 @@ pub use Rattle.lsm_writers.specs.section.FilterRefusing.{keys_fault, register_fa
 pub use Rattle.lsm_writers.specs.section.FilterRefusing.{size_fault, top_fault}
 pub use Rattle.lsm_writers.specs.section.Writing.{WritesFilter, WritesParts, part_sections}
 pub use Rattle.lsm_writers.specs.section.Writing.{tops_block, tops_of}
-pub use Rattle.lsm_writers.specs.Counts.{HasShortKeys, counted_facts, metadata_of, tally_of}
-pub use Rattle.lsm_writers.specs.Cut.{AreCut, AreCutBy, CanCut, CountsCut, Cut, IsReadable}
-pub use Rattle.lsm_writers.specs.Cut.{rest_chunk, with_cut}
-pub use Rattle.lsm_writers.specs.Filtering.{CanRegister, HasKeys, IsSmallFilter, MayHaveKeys}
-pub use Rattle.lsm_writers.specs.Filtering.{Registers, registered_key}
-pub use Rattle.lsm_writers.specs.Held.{AreTableParts, HaveParts, IsTaken}
+pub use Rattle.lsm_writers.specs.Counts.{HasShortKeys, block_counts, counted_facts, metadata_of}
+pub use Rattle.lsm_writers.specs.Counts.{tally_of}
+pub use Rattle.lsm_writers.specs.Cut.{AddsChunk, AreCut, AreCutBy, CanCut, CountsCut, Cut, IsReadable}
+pub use Rattle.lsm_writers.specs.Cut.{LeavesChunks, rest_chunk, with_cut}
+pub use Rattle.lsm_writers.specs.Filtering.{CanRegister, ForKeysOf, HasKeys, IsSmallFilter}
+pub use Rattle.lsm_writers.specs.Filtering.{MayHaveKeys, Registers, keys_of_entry, registered_key}
+pub use Rattle.lsm_writers.specs.Held.{ForTableParts, HaveParts, IsTakenWhenFull}
 pub use Rattle.sst_blocks.specs.table.Facts.{is_reclaimable, is_value_kind, starts_key}
 pub use Rattle.lsm_writers.specs.Writing.{IsFinished, IsFresh, IsSmallIndex, IsTableOf, IsWritable}
 pub use Rattle.lsm_writers.specs.Writing.{SetsOption}
@@ -80,7 +81,7 @@ pub use Rattle.lsm_writers.specs.section.Held.{filters_of}
 pub use Rattle.lsm_writers.specs.section.IndexEither.{registered_by}
 pub use Rattle.lsm_writers.specs.section.IndexRefusing.{kind_fault, part_fault}
 unfoldable pub use Rattle.lsm_writers.specs.section.IndexRefusing.{parts_fault}
-pub use Rattle.lsm_writers.specs.section.Kept.{AreAmong, handle_with, handles_among}
+pub use Rattle.lsm_writers.specs.section.Kept.{AreAmong, handle_with, handles_among, parts_of_index}
 pub use Rattle.lsm_writers.specs.section.Laws.{AdmittedLaw, AllKeysLaw, GivenMoreLaw, GivenNoneLaw}
 pub use Rattle.lsm_writers.specs.section.Laws.{SameFaultLaw, SameFiltersLaw, SmallPartsLaw}
 pub use Rattle.lsm_writers.specs.section.Rising.{AreRising}

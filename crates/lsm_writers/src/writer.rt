@@ -1,5 +1,5 @@
 //! The writer of one table.
-ghost use Rattle.std.specs.Prelude.{◌≡◌, ◌↔◌, ◌<◌, ◌≤◌, ◌+◌, ◌*◌, ◌^◌, ℕ, List, [], ◌∷◌, ◌++◌};
+ghost use Rattle.std.specs.Prelude.{◌≡◌, ◌↔◌, ◌<◌, ◌≤◌, ◌+◌, ◌*◌, ◌^◌, ℕ, [], ◌∷◌, ◌++◌};
 ghost use Rattle.std.specs.Prelude.{None, Some, false, true, length, IsTrue, IfOk, IfErr, OnOk};
 ghost use Rattle.std.specs.Prelude.{OnErr, MatchResult, MatchOption};
 ghost use Rattle.lsm_writers.specs.Words as spec;
@@ -628,17 +628,13 @@ fn admit<A: Allocator + Clone>(
 ) -> Result<Tally<A>, Error>
     requires sized { chunk_size ≡ spec.entries_size chunk.now }
     requires small { spec.empty_len + spec.entry_head_len * length chunk.now + chunk_size < 2 ^ 32 }
-    requires rising { let e = spec.entry_of_ref entry.now in
-        spec.CanRegister options.now.filter_kind options.now.bloom_policy filter_writer.old
-        (spec.registered_key options.now.bloom_policy
-        (spec.starts_key (spec.option_map spec.entry_of_ref before) e) e.user_key) }
+    requires rising { spec.CanRegister options.now.filter_kind options.now.bloom_policy
+        filter_writer.old (spec.keys_of_entry options.now before entry.now) }
     ensures tally { let e = spec.entry_of_ref entry.now in
         IfOk result (λ t. t ≡
         spec.tally_of (spec.option_map spec.entry_of_ref before.entry) e meta.now.first_key) }
-    ensures registered { let e = spec.entry_of_ref entry.now in
-        OnOk result (spec.Registers options.now filter_writer.old filter_writer.new
-        (spec.registered_key options.now.bloom_policy
-        (spec.starts_key (spec.option_map spec.entry_of_ref before.entry) e) e.user_key)) }
+    ensures registered { OnOk result (spec.Registers options.now filter_writer.old filter_writer.new
+        (spec.keys_of_entry options.now before.entry entry.now)) }
     ensures refused { spec.Faults result (spec.item_fault chunk.now (spec.entry_of_ref entry.now)) }
     ensures first { spec.FaultsFirst result
         (spec.item_fault chunk.now (spec.entry_of_ref entry.now)) }
@@ -673,9 +669,9 @@ fn take_entry<A: Allocator + Clone>(
     requires fit { spec.entries_fault (chunk.old ++ spec.entry_of_ref entry.now ∷ []) ≡ None }
     requires small { spec.entry_size (spec.entry_of_ref entry.now) + chunk_size.old < 2 ^ 64 }
     requires counts { spec.CountsCut blocks.old.chunks meta.old }
-    ensures taken { let more = chunk.old ++ spec.entry_of_ref entry.now ∷ [] in
-        OnOk result (spec.IsTaken (spec.is_full options.now.data_block_size more) more blocks.old
-        meta.old chunk.new chunk_size.new blocks.new meta.new) }
+    ensures taken { OnOk result (spec.IsTakenWhenFull options.now.data_block_size
+        (chunk.old ++ spec.entry_of_ref entry.now ∷ []) blocks.old meta.old chunk.new chunk_size.new
+        blocks.new meta.new) }
     ensures left { OnErr result (chunk.new ≡ chunk.old) }
     ensures same_size { OnErr result (chunk_size.new ≡ chunk_size.old) }
     ensures uncut { OnErr result (blocks.new.chunks ≡ blocks.old.chunks) }
@@ -709,13 +705,11 @@ fn write_sections<A: Allocator + Clone>(
     meta: &Metadata<A>,
 ) -> Result<(), Error>
     requires { spec.HaveParts options.now file_writer.old index_writer filter_writer meta.now }
-    ensures table { OnOk result ((cut : List (List spec.Entry)) →
-        spec.AreTableParts options.now cut file_writer.old index_writer filter_writer meta.now →
-        spec.WritesTable (spec.cut_writing label.now options.now cut)
-        (spec.finished file_writer.new)) }
-    ensures refused { (cut : List (List spec.Entry)) →
-        spec.AreTableParts options.now cut file_writer.old index_writer filter_writer meta.now →
-        spec.Faults result (spec.sections_fault (spec.cut_writing label.now options.now cut)) }
+    ensures table { OnOk result (spec.ForTableParts label.now options.now file_writer.old
+        index_writer filter_writer meta.now (λ w. spec.WritesTable w
+        (spec.finished file_writer.new))) }
+    ensures refused { spec.ForTableParts label.now options.now file_writer.old index_writer
+        filter_writer meta.now (λ w. spec.Faults result (spec.sections_fault w)) }
 {
     let index_blocks = index_writer.finish(file_writer)?;
     let filter_blocks = finish_filter(filter_writer, options, file_writer)?;

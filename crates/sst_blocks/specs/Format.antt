@@ -1,10 +1,11 @@
 -- Items of any format: their encoding and decoding, and the strictly sorted list in a payload.
 use Rattle.std.specs.Prelude.{◌≡◌, ℕ, zero, suc, ◌<◌, ◌≤◌, Bool, List, [], ◌∷◌, ◌++◌, length, drop}
 use Rattle.std.specs.Prelude.{map, slice_index, nat_lt, Option, Some, None, option_and_then}
-use Rattle.std.specs.Prelude.{unwrap_or, if◌then◌else◌}
+use Rattle.std.specs.Prelude.{find, unwrap_or, if◌then◌else◌}
 use Rattle.std.specs.Option.{option_map}
 use Rattle.sst_entries.specs.Entry.{Entry}
-use Rattle.sst_entries.specs.Strict.{is_strict_after}
+use Rattle.sst_entries.specs.Point.{read_place}
+use Rattle.sst_entries.specs.Strict.{is_before, is_strict_after}
 use Rattle.sst_blocks.specs.Number.{num4}
 
 -- the encoding and decoding of an item, and the entry that determines its sort position
@@ -46,3 +47,8 @@ items_in f bytes =
 -- the same, else the empty list
 abbrev pub items_of : {X : Type 0} → Format X → List ℕ → List X
 items_of f bytes = unwrap_or (items_in f bytes) []
+
+-- the first item in a payload that follows a read of a key at a seqno
+abbrev pub first_after : {X : Type 0} → Format X → List ℕ → List ℕ → ℕ → Option X
+first_after f bytes key seqno =
+    find (λ x. is_before (read_place key seqno) (f.key x)) (unwrap_or (items_in f bytes) [])

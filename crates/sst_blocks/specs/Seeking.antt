@@ -1,6 +1,7 @@
 -- The part of a span that remains after a seek.
 use Rattle.std.specs.Prelude.{◌≡◌, ℕ, Bool, true, List, length, min, max, not, Option, Some, None}
 use Rattle.std.specs.Prelude.{Result}
+use Rattle.std.specs.List.Sorted.{IsPartitionedBy}
 use Rattle.std.specs.declared.ops.Bound.{Bound}
 use Rattle.std.specs.declared.ops.Bound.TheVariants.{Unbounded}
 use Rattle.sst_entries.specs.Stream.{EndsAtError, YieldsExactly, ok_results, answer_stops}
@@ -21,6 +22,16 @@ span_from n s = record s { from = max s.from n }
 
 abbrev pub span_to : {X : Type 0} → ℕ → Span X → Span X
 span_to n s = record s { to = min s.to n }
+
+-- except for `OutOfMemory`, these items are yielded
+abbrev pub YieldsItems : {S X : Type 0} (front back : S → Option (Result X Error) → S → Type 0)
+    → List X → S → Type 0
+YieldsItems front back xs s = (stops : Error → Bool) → stops OutOfMemory ≡ true →
+    YieldsExactly (answer_stops stops) front back s (ok_results xs)
+
+-- a number counts the items at the front that pass a test, if no item passes after one that fails
+abbrev pub CountsFront : {X : Type 0} → List X → (X → Bool) → ℕ → Type 0
+CountsFront xs passes n = IsPartitionedBy passes xs → n ≡ front_length passes xs
 
 -- a span yields its remaining items, except for `OutOfMemory`, and is exhausted after an error
 pub record YieldsLeft {X : Type 0} (front back : Span X → Option (Result X Error) → Span X → Type 0)

@@ -29,8 +29,8 @@ unfoldable pub use Rattle.sst_blocks.specs.Payload.{spelled}
 pub use Rattle.sst_blocks.specs.Place.{place_of}
 pub use Rattle.sst_blocks.specs.Reading.{entries_in, key_and_number}
 pub use Rattle.sst_blocks.specs.Seeking.{KeepsLower, KeepsLowerEdge, KeepsUpper, KeepsUpperEdge}
-pub use Rattle.sst_blocks.specs.Seeking.{YieldsLeft, above_place, reaching_place, span_from}
-pub use Rattle.sst_blocks.specs.Seeking.{span_to, whole_span}
+pub use Rattle.sst_blocks.specs.Seeking.{CountsFront, YieldsItems, YieldsLeft, above_place, reaching_place}
+pub use Rattle.sst_blocks.specs.Seeking.{span_from, span_to, whole_span}
 pub use Rattle.sst_blocks.specs.SeenHandle.{handle_of_ref}
 pub use Rattle.sst_blocks.specs.Starts.{EntriesAt, HoldsEntries, IsBlock, ItemsAt}
 pub use Rattle.sst_blocks.specs.filter.Filter.{BloomFilter, Gains, IsBuilt, IsFilterOf, admits}
@@ -49,7 +49,7 @@ unfoldable pub use Rattle.sst_blocks.specs.Block.{checked_payload, load_at_resul
 unfoldable pub use Rattle.sst_blocks.specs.Block.{place_fault, position_fault}
 pub use Rattle.sst_blocks.specs.Fnv.{fnv1a, fnv_back, fnv_basis, fnv_step}
 unfoldable pub use Rattle.sst_blocks.specs.Fnv.{fnv_from}
-pub use Rattle.sst_blocks.specs.Format.{items_in, items_of}
+pub use Rattle.sst_blocks.specs.Format.{first_after, items_in, items_of}
 pub use Rattle.sst_blocks.specs.Marks.{Holds, Says}
 unfoldable pub use Rattle.sst_blocks.specs.Number.{le4, le8, num2, num4, num8}
 pub use Rattle.sst_blocks.specs.Opened.{none_opened, with_load}

@@ -1,6 +1,6 @@
 //! Data blocks: strict lists of entries.
 ghost use Rattle.std.specs.Prelude.{◌≡◌, ℕ, ◌+◌, ◌++◌, ◌<◌, ◌≤◌, ◌≢◌, ◌^◌, ◌↔◌, List, [], Some};
-ghost use Rattle.std.specs.Prelude.{None, Bool, true, false, not, is_some, length, IsTrue, IfOk};
+ghost use Rattle.std.specs.Prelude.{None, Bool, false, not, is_some, length, IsTrue, IfOk};
 ghost use Rattle.std.specs.Prelude.{IfErr, OnOk, OnErr, slice_range};
 ghost use Rattle.sst_blocks.specs.Words as spec;
 
@@ -208,8 +208,7 @@ impl<A: Allocator> DataBlock<A> {
         ensures strict { spec.IsStrict self.now }
         ensures value { (p : List ℕ → ℕ → Bool) →
             ((key : _) (n : _) (r : _) → P.post passes key n r → r ≡ p key.now n) →
-            let q = λ (e : spec.Entry). p e.user_key e.seqno in
-            spec.IsPartitionedBy q self.now → result ≡ spec.front_length q self.now }
+            spec.CountsFront self.now (λ e. p e.user_key e.seqno) result }
     {
         let payload = self.payload.as_slice();
         front_len::<EntryRef<'_>, A, P>(self.version, payload, &self.starts, passes)
@@ -241,10 +240,8 @@ impl<A: Allocator> DataBlock<A> {
     /// Returns an iterator over the entries, from both ends.
     pub fn iter<'a>(&'a self) -> Iter<'a, A>
         ensures span { result ≡ spec.whole_span self.now }
-        ensures yields { (stops : spec.Error → Bool) → stops spec.OutOfMemory ≡ true →
-            spec.YieldsExactly (spec.answer_stops stops) ⟦<Iter<'a, A> as Iterator>⟧.next_gives
-            ⟦<Iter<'a, A> as DoubleEndedIterator>⟧.next_back_gives result
-            (spec.ok_results self.now) }
+        ensures yields { spec.YieldsItems ⟦<Iter<'a, A> as Iterator>⟧.next_gives
+            ⟦<Iter<'a, A> as DoubleEndedIterator>⟧.next_back_gives self.now result }
         ensures can { spec.CanYield ⟦<Iter<'a, A> as Iterator>⟧.next_gives
             ⟦<Iter<'a, A> as DoubleEndedIterator>⟧.next_back_gives
             ⟦<Iter<'a, A> as Iterator>⟧.can_next

@@ -1,5 +1,5 @@
 //! Index blocks: strict lists of block handles.
-ghost use Rattle.std.specs.Prelude.{◌≡◌, ◌+◌, ◌++◌, ◌<◌, ◌^◌, ◌≤◌, ◌↔◌, [], Bool, Some, None, true};
+ghost use Rattle.std.specs.Prelude.{◌≡◌, ◌+◌, ◌++◌, ◌<◌, ◌^◌, ◌≤◌, ◌↔◌, [], Some, None};
 ghost use Rattle.std.specs.Prelude.{not, length, find, IsTrue, IfOk, IfErr, OnOk, OnErr};
 ghost use Rattle.sst_blocks.specs.Words as spec;
 
@@ -192,10 +192,8 @@ impl<A: Allocator> IndexBlock<A> {
     /// Returns an iterator over the handles, from both ends.
     pub fn iter<'a>(&'a self) -> Iter<'a, A>
         ensures span { result ≡ spec.whole_span self.now }
-        ensures yields { (stops : spec.Error → Bool) → stops spec.OutOfMemory ≡ true →
-            spec.YieldsExactly (spec.answer_stops stops) ⟦<Iter<'a, A> as Iterator>⟧.next_gives
-            ⟦<Iter<'a, A> as DoubleEndedIterator>⟧.next_back_gives result
-            (spec.ok_results self.now) }
+        ensures yields { spec.YieldsItems ⟦<Iter<'a, A> as Iterator>⟧.next_gives
+            ⟦<Iter<'a, A> as DoubleEndedIterator>⟧.next_back_gives self.now result }
         ensures can { spec.CanYield ⟦<Iter<'a, A> as Iterator>⟧.next_gives
             ⟦<Iter<'a, A> as DoubleEndedIterator>⟧.next_back_gives
             ⟦<Iter<'a, A> as Iterator>⟧.can_next

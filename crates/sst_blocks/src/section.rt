@@ -256,9 +256,9 @@ fn put_trailer<A: Allocator>(
     end: u64,
     started: &[(SectionName, u64)],
 ) -> Result<(), Error>
-    ensures ok { let at = spec.section_of end started.now in
-        let slots = spec.flat_map (λ name. spec.slot (at name)) spec.section_names in
-        OnOk result (bytes.new.items ≡ bytes.old.items ++ (slots ++ spec.trailer_mark)) }
+    ensures ok { OnOk result (bytes.new.items ≡ bytes.old.items ++
+        (spec.flat_map (λ name. spec.slot (spec.section_of end started.now name)) spec.section_names
+        ++ spec.trailer_mark)) }
     ensures err { IfErr result (λ e. e ≡ spec.OutOfMemory) }
 {
     for name in NAMES {

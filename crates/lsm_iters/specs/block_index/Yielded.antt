@@ -22,3 +22,8 @@ pub record YieldsEnding {S X : Type 0} (front back : S → Option (Result X Erro
       → rs ≡ ended_at_error (yield_each xs ends)
   pub can : CanYield front back may may_back s
   pub ends : EndsAtError front back s
+
+-- The same where every call is allowed.
+abbrev pub YieldsFreely : {S X : Type 0} (front back : S → Option (Result X Error) → S → Type 0)
+    → S → List (Result X Error) → Type 0
+YieldsFreely front back s xs = YieldsEnding front back (λ _. Unit {0}) (λ _. Unit {0}) s xs

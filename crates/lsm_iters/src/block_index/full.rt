@@ -79,10 +79,8 @@ impl<A: Allocator> FullBlockIndex<A> {
     pub fn iter(&self) -> Result<Iter<A>, Error>
         ensures whole { IfOk result (λ i. i ≡ spec.whole_span self.now) }
         ensures between { IfOk result (λ i. spec.IsBetween (spec.span_left i) None None) }
-        ensures yields { let gives = ⟦<Iter<A> as Iterator>⟧.next_gives in
-            let back_gives = ⟦<Iter<A> as DoubleEndedIterator>⟧.next_back_gives in
-            IfOk result (λ i. spec.YieldsEnding gives back_gives (λ _. Unit {0}) (λ _. Unit {0}) i
-            (spec.span_left i).results) }
+        ensures yields { IfOk result (λ i. spec.YieldsFreely ⟦<Iter<A> as Iterator>⟧.next_gives
+            ⟦<Iter<A> as DoubleEndedIterator>⟧.next_back_gives i (spec.span_left i).results) }
         ensures err { IfErr result (λ e. e ≡ spec.OutOfMemory) }
     {
         Ok(Iter(OwnedIndexBlockIter::new(self.0.clone()?)))

@@ -67,10 +67,8 @@ impl<A: Allocator + Clone> TwoLevelBlockIndex<A> {
         ensures index { let index = spec.two_level self.now.0 self.now.1 in
             IfOk result (λ i. (spec.two_level_left i).index ≡ index) }
         ensures opened { IfOk result (λ i. i.opened ≡ spec.none_opened) }
-        ensures yields { let gives = ⟦<Iter<A> as Iterator>⟧.next_gives in
-            let back_gives = ⟦<Iter<A> as DoubleEndedIterator>⟧.next_back_gives in
-            IfOk result (λ i. spec.YieldsEnding gives back_gives (λ _. Unit {0}) (λ _. Unit {0}) i
-            (spec.two_level_left i).results) }
+        ensures yields { IfOk result (λ i. spec.YieldsFreely ⟦<Iter<A> as Iterator>⟧.next_gives
+            ⟦<Iter<A> as DoubleEndedIterator>⟧.next_back_gives i (spec.two_level_left i).results) }
         ensures err { IfErr result (λ e. e ≡ spec.OutOfMemory) }
     {
         let mut iter = self.iter()?;
@@ -88,10 +86,8 @@ impl<A: Allocator + Clone> TwoLevelBlockIndex<A> {
     pub fn iter(&self) -> Result<Iter<A>, Error>
         ensures unsought { IfOk result (λ i. i ≡ spec.new_two_level self.now.0 self.now.1) }
         ensures between { IfOk result (λ i. spec.IsBetween (spec.two_level_left i) None None) }
-        ensures yields { let gives = ⟦<Iter<A> as Iterator>⟧.next_gives in
-            let back_gives = ⟦<Iter<A> as DoubleEndedIterator>⟧.next_back_gives in
-            IfOk result (λ i. spec.YieldsEnding gives back_gives (λ _. Unit {0}) (λ _. Unit {0}) i
-            (spec.two_level_left i).results) }
+        ensures yields { IfOk result (λ i. spec.YieldsFreely ⟦<Iter<A> as Iterator>⟧.next_gives
+            ⟦<Iter<A> as DoubleEndedIterator>⟧.next_back_gives i (spec.two_level_left i).results) }
         ensures err { IfErr result (λ e. e ≡ spec.OutOfMemory) }
     {
         let alloc = self.alloc.clone()?;

@@ -61,10 +61,8 @@ impl<A: Allocator + Clone> VolatileBlockIndex<A> {
             IfOk result (λ i. i ≡ record unsought { lower = Some (key.now, seqno) }) }
         ensures between { let edge = Some (key.now, seqno) in
             IfOk result (λ i. spec.IsBetween (spec.on_demand_left i) edge None) }
-        ensures yields { let gives = ⟦<Iter<A> as Iterator>⟧.next_gives in
-            let back_gives = ⟦<Iter<A> as DoubleEndedIterator>⟧.next_back_gives in
-            IfOk result (λ i. spec.YieldsEnding gives back_gives (λ _. Unit {0}) (λ _. Unit {0}) i
-            (spec.on_demand_left i).results) }
+        ensures yields { IfOk result (λ i. spec.YieldsFreely ⟦<Iter<A> as Iterator>⟧.next_gives
+            ⟦<Iter<A> as DoubleEndedIterator>⟧.next_back_gives i (spec.on_demand_left i).results) }
         ensures err { IfErr result (λ e. e ≡ spec.OutOfMemory) }
     {
         let key = Slice::from(self.alloc.clone()?, key)?;
@@ -83,10 +81,8 @@ impl<A: Allocator + Clone> VolatileBlockIndex<A> {
     pub fn iter(&self) -> Result<Iter<A>, Error>
         ensures unsought { IfOk result (λ i. i ≡ spec.new_on_demand self.now.0 self.now.1) }
         ensures between { IfOk result (λ i. spec.IsBetween (spec.on_demand_left i) None None) }
-        ensures yields { let gives = ⟦<Iter<A> as Iterator>⟧.next_gives in
-            let back_gives = ⟦<Iter<A> as DoubleEndedIterator>⟧.next_back_gives in
-            IfOk result (λ i. spec.YieldsEnding gives back_gives (λ _. Unit {0}) (λ _. Unit {0}) i
-            (spec.on_demand_left i).results) }
+        ensures yields { IfOk result (λ i. spec.YieldsFreely ⟦<Iter<A> as Iterator>⟧.next_gives
+            ⟦<Iter<A> as DoubleEndedIterator>⟧.next_back_gives i (spec.on_demand_left i).results) }
         ensures err { IfErr result (λ e. e ≡ spec.OutOfMemory) }
     {
         let alloc = self.alloc.clone()?;

@@ -7,6 +7,7 @@ use Rattle.std.specs.Iterator.{Yields}
 use Rattle.std.specs.Option.{option_map}
 use Rattle.sst_entries.specs.Entry.{Entry, entry}
 use Rattle.sst_entries.specs.Kind.{is_tombstone_kind, is_weak_kind}
+use Rattle.sst_entries.specs.Lending.{came}
 use Rattle.sst_entries.specs.Stream.{CanYield, YieldsExactly, answer_stops, first, nowhere, ok_results}
 use Rattle.sst_entries.specs.Stream.{result_stops}
 use Rattle.sst_entries.specs.declared.error.Error.{Error}
@@ -23,6 +24,7 @@ use Rattle.lsm_sorted.specs.Compaction.{zeroed}
 use Rattle.lsm_sorted.specs.Compacting.{Asks, Compacted, GetsAll, KeepsTombstones, SaysOf, of_key}
 use Rattle.lsm_sorted.specs.lending.LentFaults.{EndsIn, FilterSays, NothingCame, Passing, PassingOr}
 use Rattle.lsm_sorted.specs.lending.LentFaults.{WantsItself}
+use Rattle.lsm_sorted.specs.CompactionState.{answer_of}
 use Rattle.lsm_sorted.specs.declared.compaction.Rules.{Rules}
 use Rattle.lsm_sorted.specs.declared.compaction.lending.Lends.{Lends}
 use Rattle.lsm_sorted.specs.declared.compaction.lending.Lends.TheVariants.{Nothing, Source, Held}
@@ -241,6 +243,16 @@ module _ {F C : Type 0} (gives : F → Entry → Result Verdict Error → F → 
       pub does : (later : Later) → t.is_over ≡ false → (rest more : List R) (g : F) (d : C)
           → EndsAtNone answers rest → WillCompact later t (looked_at lent t rest) more g d
           → SettlesFirst later head s (results_in answers ++ rest) (listed_answer r ++ more) g d
+
+    -- the same for a step that returned this result
+    abbrev pub SettlesLent : Entry → Result Bool Error → LendingCompaction S F C A → Type 0
+    SettlesLent head result t = SettlesCompacted head (came result (lent_compacted lent t)) t
+
+    -- the same for any head with the key in the buffer and this seqno, if it has to wait
+    abbrev pub SettlesWaiting : ℕ → Result Bool Error → LendingCompaction S F C A → Type 0
+    SettlesWaiting seqno result t = (head : Entry) → has_to_wait s.rules head ≡ true →
+        head.user_key ≡ s.key.items → head.seqno ≡ seqno →
+        SettlesCompacted head (answer_of s.rules head result) t
 
     -- fetches the next entry to process. If none is pending and no error is returned, the source's
     -- last result was `None`.

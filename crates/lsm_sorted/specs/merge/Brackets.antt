@@ -1,7 +1,8 @@
 -- Tournaments over slots: full binary trees, whose leaves are the slots and whose inner nodes name
 -- the winner of their children. Node 1 is the root, and the children of node n are 2n and 2n + 1.
-use Rattle.std.specs.Prelude.{◌≡◌, ◌⊎◌, ℕ, ◌+◌, ◌*◌, ◌^◌, ◌<◌, Bool, true, false, List, [], ◌∷◌}
+use Rattle.std.specs.Prelude.{◌≡◌, ◌⊎◌, ℕ, ◌+◌, ◌-◌, ◌*◌, ◌^◌, ◌<◌, Bool, true, false, List, [], ◌∷◌}
 use Rattle.std.specs.Prelude.{◌++◌, Option, Some, None, length, slice_index, slice_set}
+use Rattle.std.specs.Prelude.{if◌then◌else◌}
 use Rattle.std.specs.declared.cmp.Ordering.{Ordering}
 use Rattle.std.specs.Ordering.{is_gt}
 use Rattle.sst_entries.specs.declared.stream.Direction.{Direction}
@@ -10,7 +11,7 @@ use Rattle.lsm_sorted.specs.declared.heap.lazy_tournament.brackets.Bracket.{Brac
 use Rattle.lsm_sorted.specs.declared.heap.lazy_tournament.brackets.Brackets.{Brackets}
 use Rattle.lsm_sorted.specs.merge.Order.{toward}
 use Rattle.lsm_sorted.specs.merge.Slots.{Places, slot_at}
-use Rattle.lsm_sorted.specs.merge.Tournament.{height}
+use Rattle.lsm_sorted.specs.merge.Tournament.{height, total_height}
 
 -- the second slot beats the first: an empty slot loses
 abbrev pub is_beaten : {T : Type 0} → (T → T → Ordering) → Option T → Option T → Bool
@@ -90,6 +91,12 @@ PlaysEnd Back old new = (new.front.is_played ≡ old.front.is_played) × (new.ba
 abbrev pub is_played_at : {Z : Type 0} → Direction → Brackets Z → Bool
 is_played_at Front b = b.front.is_played
 is_played_at Back b = b.back.is_played
+
+-- the most comparisons after a first winner at this end: h for each played bracket, and one for
+-- each inner node if this one is not played yet
+abbrev pub most_steps : {Z : Type 0} → Direction → Brackets Z → ℕ → ℕ → ℕ
+most_steps end b leaves h = b.steps + total_height b.front.is_played b.back.is_played h
+    + (if is_played_at end b then 0 else leaves - 1)
 
 -- the free slot to be used next
 pub record IsNext {T : Type 0} (slots : Places T) (s : ℕ) : Type 0 where

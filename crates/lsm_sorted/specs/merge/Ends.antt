@@ -8,10 +8,15 @@ use Rattle.lsm_sorted.specs.declared.heap.ends.Ends.{Ends}
 use Rattle.sst_entries.specs.declared.stream.Direction.{Direction}
 use Rattle.sst_entries.specs.declared.stream.Direction.TheVariants.{Front, Back}
 use Rattle.sst_entries.specs.Stream.{YieldsExactly, CanYield, answer_stops, YieldsFirst, YieldsLast}
+use Rattle.sst_entries.specs.Stream.{nowhere}
 
 -- an entry, or an error
 abbrev pub R : Type 0
 R = Result Entry Error
+
+-- after any calls at the front alone, it may be called again
+abbrev pub CanAdvance : {S : Type 0} → (S → Option R → S → Type 0) → (S → Type 0) → S → Type 0
+CanAdvance advances can = CanYield advances nowhere can can
 
 module _ {S : Type 0} (stops : Error → Bool) (front back : S → Option R → S → Type 0) where
   -- the remaining results, by whether it has ended

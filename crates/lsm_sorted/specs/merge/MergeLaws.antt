@@ -13,6 +13,8 @@ use Rattle.lsm_sorted.specs.merge.Ends.{R}
 use Rattle.lsm_sorted.specs.merge.Union.{Ascends, entries_among, all_errors, union_of}
 use Rattle.lsm_sorted.specs.merge.InPlace.{merge_of}
 use Rattle.lsm_sorted.specs.merge.Merge.{YieldsUntil}
+use Rattle.lsm_sorted.specs.merge.Asks.{IsMergerOf}
+use Rattle.lsm_sorted.specs.declared.merge.Merger.{Merger}
 
 -- each item is at most as often in xs as in ys
 pub record IsWithinBag {A : Type 0} (xs ys : List A) : Type 0 where
@@ -103,3 +105,17 @@ module _ {S : Type 0} (front back : S → Option R → S → Type 0) where
       (m : T) : Type 0 where
     pub asks : All (CanYield front back can can_back) its → All (λ s. IsFinite (left s)) its
         → CanYield next next_back can_next can_next_back m
+
+-- the same for calls at the front only
+abbrev pub CanMergeForward : {S T : Type 0} → (S → Option R → S → Type 0) → (S → Type 0)
+    → (S → Count) → List S → (T → Option R → T → Type 0) → (T → Type 0) → T → Type 0
+CanMergeForward front can left its next can_next m =
+    CanMerge front nowhere can can left its next nowhere can_next can_next m
+
+-- before any call of a merger, this law holds of its sources
+abbrev pub OfItsSources : {S A : Type 0}
+    → (List S → (Merger S A → Option R → Merger S A → Type 0)
+    → (Merger S A → Option R → Merger S A → Type 0) → Merger S A → Type 0)
+    → (next next_back : Merger S A → Option R → Merger S A → Type 0) → Merger S A → Type 0
+OfItsSources {S} law next next_back m =
+    (its : List S) → IsMergerOf its m → law its next next_back m

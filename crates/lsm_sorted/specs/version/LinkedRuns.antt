@@ -1,9 +1,11 @@
 -- Links: references to tables of an input, which are packed with their positions.
-use Rattle.std.specs.Prelude.{◌≡◌, ◌<◌, true, List, [], map, Contains, IsPermutation, Some}
+use Rattle.std.specs.Prelude.{◌≡◌, ◌<◌, true, List, [], ◌++◌, map, Contains, IsPermutation}
+use Rattle.std.specs.Prelude.{IsSome, Option, Some}
 use Rattle.std.specs.List.{AllByRecursion}
 use Rattle.lsm_sorted.specs.version.KeyRange.{Interval, overlaps}
 use Rattle.lsm_sorted.specs.version.Packing.{tables_in, table_at, put_all, AreTablesWellFormed}
-use Rattle.lsm_sorted.specs.version.Packing.{AreNotEmpty}
+use Rattle.lsm_sorted.specs.version.Packing.{AreNotEmpty, touches}
+use Rattle.lsm_sorted.specs.version.Run.{IsInOrder}
 use Rattle.lsm_sorted.specs.version.Links.{TableWithPlace, table_with_place}
 use Rattle.lsm_sorted.specs.declared.version.optimize.Link.{Link}
 
@@ -27,6 +29,12 @@ module _ {T : Type 0} where
         packed ≡ put_all (λ link. range link.table.now) links []
     pub some : AreNotEmpty packed
 
+  -- links to these tables are packed after those of any others
+  abbrev pub AddsLinks : (T → Interval) → List (TableWithPlace T) → List (List (Link T))
+      → List (List (Link T)) → Type 0
+  AddsLinks range more old new = (ts : List (TableWithPlace T)) →
+      ArePackedLinks range ts old → ArePackedLinks range (ts ++ more) new
+
   -- the range of a link's table
   abbrev pub link_range : (T → Interval) → Link T → Interval
   link_range range link = range link.table.now
@@ -41,3 +49,10 @@ module _ {T : Type 0} where
   abbrev pub IsBelow : (T → Interval) → Link T → Link T → Type 0
   IsBelow range link above =
       (link.run < above.run) × (overlaps (range link.table.now) (range above.table.now) ≡ true)
+
+  -- among ordered links of earlier runs, one that overlaps this link is found if there is one
+  abbrev pub FindsLinkTo : {X : Type 0} → (T → Interval) → List (Link T) → Link T → Option X
+      → Type 0
+  FindsLinkTo range links above found = IsInOrder (link_range range) links →
+      AreEarlier range links above →
+      touches (link_range range) (link_range range above) links ≡ true → IsSome found

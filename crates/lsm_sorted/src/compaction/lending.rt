@@ -377,11 +377,8 @@ impl<L: Lending, F: LentFilter<A> + Drop, C: LentCallback + Drop, A: Allocator> 
         ensures key { self.new.key ≡ self.old.key }
         ensures value { self.new.value ≡ self.old.value }
         ensures rests { OnErr result (self.new.is_pending ≡ false) }
-        ensures settles { (head : spec.Entry) →
-            spec.has_to_wait self.old.rules head ≡ true → head.user_key ≡ self.old.key.items →
-            head.seqno ≡ seqno →
-            spec.SettlesCompacted F.gives C.gets L.advances L.lent self.old head
-            (spec.answer_of self.old.rules head result) self.new }
+        ensures settles { spec.SettlesWaiting F.gives C.gets L.advances L.lent self.old seqno result
+            self.new }
         ensures few { spec.one_more_if self.new.is_pending (L.left self.new.source) ≤
             L.left self.old.source }
     {
@@ -411,9 +408,8 @@ impl<L: Lending, F: LentFilter<A> + Drop, C: LentCallback + Drop, A: Allocator> 
         requires waits { spec.has_to_wait self.old.rules
             (spec.entry self.old.key.items self.old.value.items seqno kind) ≡ true }
         ensures may { spec.MayLendCompacted L.advances L.can_advance self.new }
-        ensures settles { spec.SettlesCompacted F.gives C.gets L.advances L.lent self.old
-            (spec.entry self.old.key.items self.old.value.items seqno kind)
-            (spec.came result (spec.lent_compacted L.lent self.new)) self.new }
+        ensures settles { spec.SettlesLent F.gives C.gets L.advances L.lent self.old
+            (spec.entry self.old.key.items self.old.value.items seqno kind) result self.new }
         ensures rests { OnErr result (self.new.is_pending ≡ false) }
         ensures more { IfOk result (λ more. more ≡ is_some (spec.lent_compacted L.lent self.new)) }
         ensures err { OnErr result (spec.lent_compacted L.lent self.new ≡ None) }
@@ -440,8 +436,7 @@ impl<L: Lending, F: LentFilter<A> + Drop, C: LentCallback + Drop, A: Allocator> 
             spec.has_to_wait self.old.rules head ≡ true }
         ensures may { spec.MayLendCompacted L.advances L.can_advance self.new }
         ensures settles { (head : spec.Entry) → L.lent self.old.source ≡ Some head →
-            spec.SettlesCompacted F.gives C.gets L.advances L.lent self.old head
-            (spec.came result (spec.lent_compacted L.lent self.new)) self.new }
+            spec.SettlesLent F.gives C.gets L.advances L.lent self.old head result self.new }
         ensures rests { OnErr result (self.new.is_pending ≡ false) }
         ensures more { IfOk result (λ more. more ≡ is_some (spec.lent_compacted L.lent self.new)) }
         ensures err { OnErr result (spec.lent_compacted L.lent self.new ≡ None) }
@@ -476,9 +471,8 @@ impl<L: Lending, F: LentFilter<A> + Drop, C: LentCallback + Drop, A: Allocator> 
         requires some { IsSome (L.lent self.old.source) }
         ensures may { spec.MayLendCompacted L.advances L.can_advance self.new }
         ensures settles { (head : spec.Entry) → L.lent self.old.source ≡ Some head →
-            spec.SettlesCompacted F.gives C.gets L.advances L.lent self.old
-            (spec.put_into head kind value.now)
-            (spec.came result (spec.lent_compacted L.lent self.new)) self.new }
+            spec.SettlesLent F.gives C.gets L.advances L.lent self.old
+            (spec.put_into head kind value.now) result self.new }
         ensures rests { OnErr result (self.new.is_pending ≡ false) }
         ensures more { IfOk result (λ more. more ≡ is_some (spec.lent_compacted L.lent self.new)) }
         ensures err { OnErr result (spec.lent_compacted L.lent self.new ≡ None) }

@@ -288,14 +288,11 @@ impl<
         ensures size { spec.compaction_size I.remaining self.new ≤ spec.compaction_size I.remaining
             self.old }
         ensures drains { (stops : spec.Error → Bool) →
-            spec.DrainsKey stops (spec.HoldsAhead stops I.next_gives) C.gets head.now.user_key
-            (spec.source_of
-            self.old) (spec.callback_of self.old) result (spec.source_of self.new)
-            (spec.callback_of self.new) }
-        ensures hears { spec.Hears I.next_gives spec.Front (spec.failure result)
+            spec.DrainsFrom stops I.next_gives C.gets head.now.user_key self.old
+            (spec.callback_of self.old) result self.new }
+        ensures hears { spec.HearsAhead I.next_gives result
             (spec.DrainsIn C.gets head.now.user_key (spec.callback_of self.old) result
-            (spec.callback_of self.new))
-            (spec.compaction_outlook self.old) (spec.compaction_outlook self.new) }
+            (spec.callback_of self.new)) self.old self.new }
     {
         loop {
             match self.inner.next() {
@@ -323,14 +320,10 @@ impl<
         ensures size { spec.compaction_size I.remaining self.new ≤ spec.compaction_size I.remaining
             self.old }
         ensures settles { (stops : spec.Error → Bool) →
-            spec.Settles stops (spec.HoldsAhead stops I.next_gives) C.gets (spec.rules_of self.old)
-            head.now
-            (spec.source_of self.old) (spec.callback_of self.old) result (spec.source_of self.new)
-            (spec.callback_of self.new) }
-        ensures hears { spec.Hears I.next_gives spec.Front (spec.failure result)
+            spec.SettlesFrom stops I.next_gives C.gets head.now self.old result self.new }
+        ensures hears { spec.HearsAhead I.next_gives result
             (spec.SettlesIn C.gets (spec.rules_of self.old) head.now (spec.callback_of self.old)
-            result (spec.callback_of self.new))
-            (spec.compaction_outlook self.old) (spec.compaction_outlook self.new) }
+            result (spec.callback_of self.new)) self.old self.new }
     {
         let next = match self.inner.next() {
             Some(Ok(next)) => next,
@@ -368,13 +361,10 @@ impl<
             (Some next.now)) }
         ensures drains { (stops : spec.Error → Bool) →
             ((d : C) × C.gets (spec.callback_of self.old) next.now d
-            × spec.DrainsKey stops (spec.HoldsAhead stops
-            I.next_gives) C.gets head.now.user_key (spec.source_of self.old) d result
-            (spec.source_of self.new) (spec.callback_of self.new)) }
+            × spec.DrainsFrom stops I.next_gives C.gets head.now.user_key self.old d result self.new) }
         ensures hears { (d : C) × C.gets (spec.callback_of self.old) next.now d ×
-            spec.Hears I.next_gives spec.Front (spec.failure result)
-            (spec.DrainsIn C.gets head.now.user_key d result (spec.callback_of self.new))
-            (spec.compaction_outlook self.old) (spec.compaction_outlook self.new) }
+            spec.HearsAhead I.next_gives result (spec.DrainsIn C.gets head.now.user_key d result
+            (spec.callback_of self.new)) self.old self.new }
     {
         self.dropped_callback.on_dropped(next);
         self.drain_key(head)?;

@@ -1,5 +1,5 @@
 //! Packing runs into as few as possible.
-ghost use Rattle.std.specs.Prelude.{◌≡◌, ◌≢◌, ◌<◌, ◌≤◌, ◌∷◌, ◌++◌, ⊤, true, List, [], length};
+ghost use Rattle.std.specs.Prelude.{◌≡◌, ◌≢◌, ◌<◌, ◌≤◌, ◌∷◌, ⊤, List, [], length};
 ghost use Rattle.std.specs.Prelude.{reverse, Contains, IsSome, IfOk, IfErr, IfSome, MatchOption};
 ghost use Rattle.std.specs.Prelude.{OnOk, None, Ok, Some};
 ghost use Rattle.lsm_sorted.specs.Words as spec;
@@ -157,10 +157,8 @@ fn place_links<'a, T: Ranged, A: Allocator + Clone>(
     run: usize,
     tables: &'a [T],
 ) -> Result<(), Error>
-    ensures ok { OnOk result ((ts : List (spec.TableWithPlace T)) →
-        spec.ArePackedLinks T.range ts packed.old.items →
-        spec.ArePackedLinks T.range (ts ++ spec.run_with_places run 0 tables.now)
-        packed.new.items) }
+    ensures ok { OnOk result (spec.AddsLinks T.range (spec.run_with_places run 0 tables.now)
+        packed.old.items packed.new.items) }
     ensures err { IfErr result (λ e. e ≡ spec.OutOfMemory) }
 {
     for (index, table) in tables.iter().enumerate() {
@@ -204,10 +202,8 @@ fn link_below<'r, 'a, T: Ranged, A: Allocator>(
     ensures found { IfSome result (λ link. Contains run.now link.now ×
         MatchOption (spec.option_copied above.entry) ⊤ (λ a. spec.IsBelow T.range link.now a)) }
     ensures first { spec.option_copied above.entry ≡ None → run.now ≢ [] → IsSome result }
-    ensures next { let range = spec.link_range T.range in
-        (a : spec.Link T) → spec.option_copied above.entry ≡ Some a →
-        spec.IsInOrder range run.now → spec.AreEarlier T.range run.now a →
-        spec.touches range (range a) run.now ≡ true → IsSome result }
+    ensures next { (a : spec.Link T) → spec.option_copied above.entry ≡ Some a →
+        spec.FindsLinkTo T.range run.now a result }
 {
     match above {
         Some(above) => link_to(run, above),
@@ -221,10 +217,7 @@ fn link_to<'r, 'a, T: Ranged, A: Allocator>(
 ) -> Option<&'r Link<'a, T>>
     ensures found { IfSome result (λ link.
         Contains run.now link.now × spec.IsBelow T.range link.now above.now) }
-    ensures next { spec.IsInOrder (spec.link_range T.range) run.now →
-        spec.AreEarlier T.range run.now above.now →
-        spec.touches (spec.link_range T.range) (spec.link_range T.range above.now) run.now ≡ true →
-        IsSome result }
+    ensures next { spec.FindsLinkTo T.range run.now above.now result }
 {
     let link = run.get_overlapping(above.key_range()).first()?;
     if link.run < above.run && link.key_range().overlaps_with_key_range(above.key_range()) {

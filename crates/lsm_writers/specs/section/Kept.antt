@@ -3,12 +3,18 @@ use Rattle.std.specs.Prelude.{ℕ, ◌≤◌, Bool, List, length, map, slice_ran
 use Rattle.std.specs.List.{AllByRecursion}
 use Rattle.sst_blocks.specs.Handle.{Handle}
 use Rattle.sst_blocks.specs.Place.{Place}
+use Rattle.sst_blocks.specs.table.Partitions.{is_full_index}
+use Rattle.sst_blocks.specs.table.Parts.{parts_by}
 use Rattle.lsm_writers.specs.declared.section.kept.HandlePlace.{HandlePlace}
 
 -- the registered handles, and whether a call failed
 pub record Kept : Type 0 where
   pub handles : List Handle
   pub failed : Bool
+
+-- the handles of a partitioned index, cut into parts of this size
+abbrev pub parts_of_index : ℕ → List Handle → List (List Handle)
+parts_of_index size handles = parts_by (is_full_index size) handles
 
 -- the handle of a block with this end key and seqno
 abbrev pub handle_with : List ℕ → ℕ → Place → Handle

@@ -138,14 +138,14 @@ impl<A: Allocator + Clone> PartitionedFilterWriter<A> {
     fn push_key(&mut self, key: &[u8]) -> Result<(), Error>
         requires { spec.AreRising (spec.end_keys self.old.parts ++ key.now ∷ []) }
         ensures ok { OnOk result ((given : spec.GivenKeys) → spec.HoldsParts self.old given →
-            let kind = Partitioned self.old.size in
-            spec.HoldsParts self.new (spec.with_key kind self.old.policy given key.now)) }
+            spec.HoldsParts self.new (spec.with_key (Partitioned self.old.size) self.old.policy
+            given key.now)) }
         ensures policy { self.new.policy ≡ self.old.policy }
         ensures size { self.new.size ≡ self.old.size }
         ensures failed { self.new.failed ≡ self.old.failed }
         ensures refused { (given : spec.GivenKeys) → spec.HoldsParts self.old given →
-            let kind = Partitioned self.old.size in
-            spec.Faults result (spec.register_fault kind self.old.policy given.pending key.now) }
+            spec.Faults result (spec.register_fault (Partitioned self.old.size) self.old.policy
+            given.pending key.now) }
     {
         let hash = Builder::<A>::get_hash(key);
         self.bloom_hash_buffer.push(hash)?;
@@ -316,10 +316,12 @@ fn write_partition<A: Allocator + Clone>(
 ) -> Result<KeyedBlockHandle<A>, Error>
     ensures ok { let bytes = writer.old.bytes ++ spec.filter_block spec.V4 partition.filter in
         OnOk result (writer.new ≡ record writer.old { bytes = bytes }) }
-    ensures handle { let size = spec.header_len + length (spec.payload_of partition.filter) in
-        let at = length writer.old.bytes in
-        IfOk result (λ h. h ≡
-        record { end_key = partition.end_key; seqno = 0; offset = at; size = size }) }
+    ensures handle { IfOk result (λ h. h ≡ record {
+      end_key = partition.end_key;
+      seqno = 0;
+      offset = length writer.old.bytes;
+      size = spec.header_len + length (spec.payload_of partition.filter);
+    }) }
     ensures unchanged { OnErr result (writer.new ≡ writer.old) }
     ensures err { IfErr result (λ e. e ≡ spec.OutOfMemory) }
 {

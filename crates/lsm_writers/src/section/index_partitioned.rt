@@ -138,16 +138,14 @@ fn write_sections<A: Allocator + Clone>(
 ) -> Result<usize, Error>
     requires unwritten { spec.HasNoIndex writer.old }
     requires strict { spec.AreStrictHandles kept.handles }
-    ensures ok { let parts = spec.parts_by (spec.is_full_index partition_size) kept.handles in
-        let at = length writer.old.bytes in
-        OnOk result (writer.new
-        ≡ spec.appended writer.old (spec.partitioned_index spec.V4 at parts)) }
+    ensures ok { OnOk result (writer.new ≡ spec.appended writer.old
+        (spec.partitioned_index spec.V4 (length writer.old.bytes)
+        (spec.parts_of_index partition_size kept.handles))) }
     ensures count { let parts = spec.parts_by (spec.is_full_index partition_size) kept.handles in
         IfOk result (λ n. n ≡ length parts) }
-    ensures fits { let parts = spec.parts_by (spec.is_full_index partition_size) kept.handles in
-        let at = length writer.old.bytes in
-        OnOk result (spec.AllByRecursion spec.SectionFits
-        (spec.partitioned_index spec.V4 at parts)) }
+    ensures fits { OnOk result (spec.AllByRecursion spec.SectionFits
+        (spec.partitioned_index spec.V4 (length writer.old.bytes)
+        (spec.parts_of_index partition_size kept.handles))) }
     ensures before { take (length writer.old.bytes) writer.new.bytes ≡ writer.old.bytes }
     ensures refused { spec.Faults result (spec.kind_fault (Partitioned partition_size) kept.handles) }
 {
@@ -180,9 +178,10 @@ fn write_partitions<A: Allocator + Clone>(
 ) -> Result<(), Error>
     requires strict { spec.AreStrictHandles handles.now }
     requires empty { tops.old.items ≡ [] }
-    ensures ok { let parts = spec.parts_by (spec.is_full_index partition_size) handles.now in
-        let bytes = writer.old.bytes ++ spec.flat_map (spec.handles_block spec.V4) parts in
-        OnOk result (writer.new ≡ record writer.old { bytes = bytes }) }
+    ensures ok { OnOk result (writer.new ≡ record writer.old {
+      bytes = writer.old.bytes ++
+          spec.flat_map (spec.handles_block spec.V4) (spec.parts_of_index partition_size handles.now);
+    }) }
     ensures tops { let parts = spec.parts_by (spec.is_full_index partition_size) handles.now in
         OnOk result (tops.new.items ≡ spec.index_tops spec.V4 (length writer.old.bytes) parts) }
     ensures short { let parts = spec.parts_by (spec.is_full_index partition_size) handles.now in

@@ -1,6 +1,6 @@
 //! The data blocks of a table, and the index of them.
-ghost use Rattle.std.specs.Prelude.{◌≡◌, ◌+◌, ◌*◌, ◌++◌, ◌^◌, ◌<◌, List, [], ◌∷◌, Option, None};
-ghost use Rattle.std.specs.Prelude.{Some, true, false, length, IfOk, IfErr, OnOk, OnErr};
+ghost use Rattle.std.specs.Prelude.{◌≡◌, ◌+◌, ◌*◌, ◌++◌, ◌^◌, ◌<◌, [], ◌∷◌, None};
+ghost use Rattle.std.specs.Prelude.{true, false, length, IfOk, IfErr, OnOk, OnErr};
 ghost use Rattle.lsm_writers.specs.Words as spec;
 
 use crate::writer::block_buffer::BlockBuffer;
@@ -140,16 +140,12 @@ fn add_block<A: Allocator + Clone>(
     requires fit { spec.entries_fault entries.old ≡ None }
     requires cut { spec.CanCut file_writer.old index_writer.old.handles index_writer.old.failed
         entries.old }
-    ensures added { OnOk result ((chunks : List (List spec.Entry)) → (before : Option spec.Entry) →
-        spec.AreCutBy chunks file_writer.old index_writer.old before →
-        spec.IsStrict (spec.joined chunks ++ entries.old) →
-        spec.AreCutBy (chunks ++ entries.old ∷ []) file_writer.new index_writer.new
-        (Some (spec.last_entry entries.old))) }
+    ensures added { OnOk result (spec.AddsChunk file_writer.old index_writer.old entries.old
+        file_writer.new index_writer.new) }
     ensures works { OnOk result (index_writer.new.failed ≡ false) }
     ensures same { entries.new ≡ entries.old }
-    ensures left { OnErr result ((chunks : List (List spec.Entry)) → (before : Option spec.Entry) →
-        spec.AreCutBy chunks file_writer.old index_writer.old before →
-        spec.AreCutBy chunks file_writer.new index_writer.new before) }
+    ensures left { OnErr result (spec.LeavesChunks file_writer.old index_writer.old file_writer.new
+        index_writer.new) }
     ensures err { IfErr result (λ e. e ≡ spec.OutOfMemory) }
 {
     let block = entries.write_into(file_writer)?;

@@ -30,7 +30,7 @@ pub(crate) fn write_meta<A: Allocator + Clone>(
     requires short { spec.HasShortKeys meta.now }
     ensures ok { OnOk result (file_writer.new ≡ spec.appended file_writer.old
         (spec.meta_section spec.V4 (spec.counted_items label.now options.now
-        (record { index = counts.index; filter = counts.filter }) meta.now))) }
+        (spec.block_counts counts) meta.now))) }
     ensures err { IfErr result (λ e. e ≡ spec.OutOfMemory) }
 {
     let items = meta_items(buffer.allocator(), label, options, counts, meta)?;
@@ -88,10 +88,8 @@ fn put_block_items<A: Allocator + Clone>(
     counts: BlockCounts,
     meta: &Metadata<A>,
 ) -> Result<(), Error>
-    ensures ok { OnOk result (items.new.items ≡ items.old.items ++
-        spec.block_items label.now options.now
-        (record { index = counts.index; filter = counts.filter })
-        meta.now.data_block_count meta.now.file_pos.0) }
+    ensures ok { OnOk result (items.new.items ≡ items.old.items ++ spec.block_items label.now
+        options.now (spec.block_counts counts) meta.now.data_block_count meta.now.file_pos.0) }
     ensures err { IfErr result (λ e. e ≡ spec.OutOfMemory) }
 {
     put_all(

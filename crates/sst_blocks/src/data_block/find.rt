@@ -27,9 +27,9 @@ pub(crate) fn find_entry<'a>(
     requires long { 4 ≤ length payload.now }
     requires tested { IsTrue is_tested → is_some (spec.entries_in version payload.now) ≡ true }
     ensures whole { OnOk result (is_some (spec.entries_in version payload.now) ≡ true) }
-    ensures found { let entries = unwrap_or (spec.entries_in version payload.now) [] in
-        IfOk result (λ found. spec.option_map (λ x. spec.entry_of_ref x.1) found ≡
-        find (spec.is_before (spec.read_place key.now seqno)) entries) }
+    ensures found { IfOk result (λ found. spec.option_map (λ x. spec.entry_of_ref x.1) found ≡
+        find (spec.is_before (spec.read_place key.now seqno))
+        (unwrap_or (spec.entries_in version payload.now) [])) }
     ensures place { IfOk result (λ found. IfSome found (λ x.
         spec.option_map (λ y. y.0) (spec.entry_at version (drop x.0 payload.now)) ≡
         Some (spec.entry_of_ref x.1))) }

@@ -1,6 +1,6 @@
 //! Finding one item of a payload in one pass without allocation.
-ghost use Rattle.std.specs.Prelude.{◌≡◌, ◌≤◌, [], Some, None, true, length};
-ghost use Rattle.std.specs.Prelude.{drop, find, is_some, unwrap_or, if◌then◌else◌};
+ghost use Rattle.std.specs.Prelude.{◌≡◌, ◌≤◌, Some, None, true, length};
+ghost use Rattle.std.specs.Prelude.{drop, is_some, if◌then◌else◌};
 ghost use Rattle.std.specs.Prelude.{IfErr, IfOk, IfSome, IsTrue, OnOk};
 ghost use Rattle.sst_blocks.specs.Words as spec;
 
@@ -27,10 +27,8 @@ pub(crate) fn find_item<'a, R: ItemRef<'a>>(
     requires tested { IsTrue is_tested →
         is_some (spec.items_in (R.format version) payload.now) ≡ true }
     ensures whole { OnOk result (is_some (spec.items_in (R.format version) payload.now) ≡ true) }
-    ensures found { let f = R.format version in
-        let items = unwrap_or (spec.items_in f payload.now) [] in
-        IfOk result (λ found. spec.option_map (λ x. R.returned x.1) found ≡
-        find (λ x. spec.is_before (spec.read_place key.now seqno) (f.key x)) items) }
+    ensures found { IfOk result (λ found. spec.option_map (λ x. R.returned x.1) found ≡
+        spec.first_after (R.format version) payload.now key.now seqno) }
     ensures place { IfOk result (λ found. IfSome found (λ x.
         spec.option_map (λ y. y.0) ((R.format version).read (drop x.0 payload.now)) ≡
         Some (R.returned x.1))) }
@@ -54,10 +52,8 @@ fn find_tested<'a, R: ItemRef<'a>>(
 ) -> Option<(usize, R)>
     requires long { 4 ≤ length payload.now }
     requires tested { is_some (spec.items_in (R.format version) payload.now) ≡ true }
-    ensures found { let f = R.format version in
-        let items = unwrap_or (spec.items_in f payload.now) [] in
-        spec.option_map (λ x. R.returned x.1) result ≡
-        find (λ x. spec.is_before (spec.read_place key.now seqno) (f.key x)) items }
+    ensures found { spec.option_map (λ x. R.returned x.1) result ≡
+        spec.first_after (R.format version) payload.now key.now seqno }
     ensures place { IfSome result (λ x.
         spec.option_map (λ y. y.0) ((R.format version).read (drop x.0 payload.now)) ≡
         Some (R.returned x.1)) }
@@ -87,10 +83,8 @@ fn find_and_test<'a, R: ItemRef<'a>>(
 ) -> Result<Option<(usize, R)>, Error>
     requires long { 4 ≤ length payload.now }
     ensures whole { OnOk result (is_some (spec.items_in (R.format version) payload.now) ≡ true) }
-    ensures found { let f = R.format version in
-        let items = unwrap_or (spec.items_in f payload.now) [] in
-        IfOk result (λ found. spec.option_map (λ x. R.returned x.1) found ≡
-        find (λ x. spec.is_before (spec.read_place key.now seqno) (f.key x)) items) }
+    ensures found { IfOk result (λ found. spec.option_map (λ x. R.returned x.1) found ≡
+        spec.first_after (R.format version) payload.now key.now seqno) }
     ensures place { IfOk result (λ found. IfSome found (λ x.
         spec.option_map (λ y. y.0) ((R.format version).read (drop x.0 payload.now)) ≡
         Some (R.returned x.1))) }
@@ -129,10 +123,9 @@ fn put_first<'a, R: ItemRef<'a>>(
     key: &[u8],
     seqno: SeqNo,
 )
-    ensures { (v : TableVersion) →
-        let is_past = spec.is_before (spec.read_place key.now seqno)
-        ((R.format v).key (R.returned item)) in
-        found.new ≡ spec.option_or found.old (if is_past then Some (start, item) else None) }
+    ensures { (v : TableVersion) → found.new ≡ spec.option_or found.old
+        (if spec.is_before (spec.read_place key.now seqno) ((R.format v).key (R.returned item))
+        then Some (start, item) else None) }
 {
     if found.is_none() && item.is_past(key, seqno) {
         *found = Some((start, item));

@@ -60,10 +60,8 @@ impl<A: Allocator> Brackets<A> {
         ensures emptied { self.new.emptied ≡ None }
         ensures plays { spec.PlaysEnd end self.old self.new }
         ensures rises { self.old.steps ≤ self.new.steps }
-        ensures bound { let old = self.old in let leaves = length slots.now in
-            (h : ℕ) → leaves ≡ 2 ^ h →
-            self.new.steps ≤ old.steps + spec.total_height old.front.is_played old.back.is_played h
-            + (if spec.is_played_at end old then 0 else leaves - 1) }
+        ensures bound { (h : ℕ) → length slots.now ≡ 2 ^ h →
+            self.new.steps ≤ spec.most_steps end self.old (length slots.now) h }
     {
         self.settle(slots);
         match end {
