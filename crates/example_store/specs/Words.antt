@@ -4,7 +4,8 @@ pub use Rattle.std.specs.Iterator.{IsFinite}
 pub use Rattle.std.specs.List.{AllByRecursion}
 pub use Rattle.std.specs.Option.{option_copied, option_map}
 pub use Rattle.std.specs.Result.{IsOkAnd}
-pub use Rattle.lsm_tables.specs.Words.{AreCompactable, AreCutOf, AreInOrder, CanYield, YieldTogether}
+pub use Rattle.lsm_tables.specs.Words.{AreCompactable, AreCutOf, AreInOrder, CanLend, CanYield}
+pub use Rattle.lsm_tables.specs.Words.{YieldTogether, may_follow}
 pub use Rattle.lsm_tables.specs.Words.{YieldsList, Entry, Gives, HasList, HaveAll, HaveEntries}
 pub use Rattle.lsm_tables.specs.Words.{HoldLists, HoldUnion, IsInOrder, IsLeastSize, IsStrict}
 pub use Rattle.lsm_tables.specs.Words.{IsWritable, OpenTable, Refuses, RunsHold, RunsHoldLists, SameTables}
@@ -23,7 +24,8 @@ pub use Rattle.example_store.specs.Ids.{AreMadeOf, HasFlushed, IsTakenIn, StaysO
 pub use Rattle.example_store.specs.Part.{IsPartKept, front_runs, part_runs}
 pub use Rattle.example_store.specs.Recent.{IsPut}
 pub use Rattle.example_store.specs.Story.{AreNumbered, Holding, IsOwn, IsOwnRun, IsOwnTable}
-pub use Rattle.example_store.specs.Story.{IsStore, IsReported, option_list, put_fault, value_in}
+pub use Rattle.example_store.specs.Story.{IsStore, IsReported, option_list, put_fault, range_in}
+pub use Rattle.example_store.specs.Story.{value_in}
 pub use Rattle.example_store.specs.declared.store.open.FileFault.TheVariants.{Unopened}
 pub use Rattle.example_store.specs.declared.store.open.OpenError.TheVariants.{File, NoFile}
 pub use Rattle.example_store.specs.declared.store.open.OpenError.TheVariants.{OldestTooHigh}

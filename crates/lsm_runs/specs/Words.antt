@@ -3,7 +3,10 @@
 pub use Rattle.sst_entries.specs.Entry.{Entry}
 pub use Rattle.sst_entries.specs.Error.{Faults, FaultsFirst, Gives, is_memory}
 pub use Rattle.sst_entries.specs.Lending.{came, entry_of_ref}
-pub use Rattle.sst_entries.specs.Point.{point, within}
+pub use Rattle.sst_entries.specs.Point.{point, within, lower_place, upper_place}
+pub use Rattle.sst_entries.specs.Key.{key_lt}
+pub use Rattle.sst_entries.specs.Span.{front_length}
+pub use Rattle.sst_entries.specs.Strict.{IsStrict}
 pub use Rattle.sst_entries.specs.Stream.{CanYield, Lowers, back_of, first, front_of, nowhere}
 pub use Rattle.sst_blocks.specs.Opened.{none_opened}
 pub use Rattle.lsm_iters.specs.block_index.Yielded.{YieldsEnding}
@@ -43,6 +46,10 @@ pub use Rattle.lsm_runs.specs.LentRun.{over_run}
 pub use Rattle.lsm_sorted.specs.LentBelow.{LendsBelow, MayLendBelow, lent_below, lent_passes}
 pub use Rattle.lsm_sorted.specs.LentBelow.{only_below}
 pub use Rattle.lsm_runs.specs.LentNewestRuns.{LendsNewest, LendsResults, runs_results_within}
+pub use Rattle.lsm_runs.specs.LentSources.{LendEach, LendsFirst}
+pub use Rattle.either.specs.Either.{MatchEither, either}
+pub use Rattle.either.specs.Iterator.{either_steps}
+pub use Rattle.std.specs.Prelude.{Result}
 pub use Rattle.std.specs.Arc.{arc_value}
 pub use Rattle.std.specs.Iterator.{IsFinite, at_most}
 pub use Rattle.std.specs.List.{AllByRecursion, AllZip}
