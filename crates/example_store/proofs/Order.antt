@@ -1,14 +1,16 @@
 -- Whether the sorted entries of runs are in strict order, by one pass over all of them.
 use Rattle.std.proofs.Common.{◌≡◌, refl, sym, ◌∙◌, ap, subst, ℕ, zero, suc, ◌+◌, ◌<◌, inl, inr}
 use Rattle.std.proofs.Common.{true, false, List, [], ◌∷◌, ◌++◌, get_or, length, take, arith}
-use Rattle.std.specs.Prelude.{Option, Some, None, Result, Ok, Err, IfErr, IsErrAnd, map}
+use Rattle.std.specs.Prelude.{Option, Some, None, Result, Ok, Err, IfErr, IsErrAnd, is_some, map}
+use Rattle.std.specs.Option.{option_map}
+use Rattle.sst_entries.specs.Stream.{Lowers}
 use Rattle.std.specs.List.{AllByRecursion, AllZip}
 use Rattle.std.proofs.lemmas.Bool.{cases_Bool}
 use Rattle.std.proofs.lemmas.List.{map-append, take_more}
 use Rattle.lsm_tables.specs.Words.{YieldsList, Entry, Error, HoldLists, IsStrict}
 use Rattle.lsm_tables.specs.Words.{OpenTable, OutOfMemory, RunsHoldLists, answer_stops, is_memory}
 use Rattle.lsm_tables.specs.Words.{joined, ok_results}
-use Rattle.lsm_tables.specs.Words.{IsStrictAfter}
+use Rattle.lsm_tables.specs.Words.{IsStrictAfter, read_place}
 use Rattle.lsm_tables.proofs.TableLaws.{Ascends, YieldTogether, HaveEntries, RunScan, RunScansNext}
 use Rattle.lsm_tables.proofs.TableLaws.{apart, ascends_of, yields_front, may_follow, memory_is}
 use Rattle.lsm_tables.proofs.TableLaws.{nowhere}
@@ -101,6 +103,41 @@ module _ {S : Type 0} (next : S → Option (Result Entry Error) → S → Type 0
       let one = yielded_one h.rest s t e h.yields step in
       apart (may_follow last e) (subst (IsStrictAfter last) one.1 (h.there strict)).0 other
 
+  -- a step that lends an entry, or nothing
+  pub lent_step : (s t : S) (e : Entry) (lent : Option Entry) → Some e ≡ lent
+      → next s (option_map {B = Result Entry Error} (λ (x : Entry). Ok x) lent) t
+      → next s (Some (Ok e)) t
+  lent_step s t e lent found goes =
+      subst (λ (o : Option Entry).
+      next s (option_map {B = Result Entry Error} (λ (x : Entry). Ok x) o) t) (sym found) goes
+
+  pub none_step : (s t : S) (lent : Option Entry) → is_some lent ≡ false
+      → next s (option_map {B = Result Entry Error} (λ (x : Entry). Ok x) lent) t → next s None t
+  none_step s t None none goes = goes
+  none_step s t (Some e) none goes = absurd cc
+
+  -- the same of the last entry's key and seqno alone
+  at_place : (e : Entry) (rest : List Entry) → IsStrictAfter (Some e) rest
+      → IsStrictAfter (Some (read_place e.user_key e.seqno)) rest
+  unfolding IsStrictAfter
+  at_place e [] h = h
+  at_place e (x ∷ xs) h = h
+
+  from_place : (e : Entry) (rest : List Entry)
+      → IsStrictAfter (Some (read_place e.user_key e.seqno)) rest → IsStrictAfter (Some e) rest
+  unfolding IsStrictAfter
+  from_place e [] h = h
+  from_place e (x ∷ xs) h = h
+
+  pub comes_by_place : (es : List Entry) (s : S) (e : Entry) → ComesOn es (Some e) s
+      → ComesOn es (Some (read_place e.user_key e.seqno)) s
+  comes_by_place es s e h = record {
+    rest = h.rest;
+    yields = h.yields;
+    there = λ strict. at_place e h.rest (h.there strict);
+    back = λ strict. h.back (from_place e h.rest strict);
+  }
+
   pub comes_last : (es : List Entry) (last : Option Entry) (s t : S) → ComesOn es last s
       → next s None t → IsStrict es
   unfolding IsStrictAfter
@@ -110,6 +147,19 @@ module _ {S : Type 0} (next : S → Option (Result Entry Error) → S → Type 0
   pub comes_fine : (es : List Entry) (last : Option Entry) (s t : S) (e : Error)
       → ComesOn es last s → next s (Some (Err e)) t → is_memory e ≡ false → ⊥
   comes_fine es last s t e h step = yielded_fine h.rest s t e h.yields step
+
+-- if an entry is lent, one was yielded
+pub not_more : (lent : Option Entry) → None ≡ lent → is_some lent ≡ true → ⊥
+not_more None none some = absurd cc
+not_more (Some e) none some = absurd cc
+
+-- a step that yields an entry lowers the bound on those that remain
+pub fewer : (e : Entry) (lent : Option Entry) (old new : ℕ) → Some e ≡ lent
+    → Lowers {A = Result Entry Error} (option_map (λ (x : Entry). Ok x) lent) old new → new < old
+fewer e lent old new found lowers =
+    subst (λ (o : Option Entry).
+    Lowers {A = Result Entry Error} (option_map (λ (x : Entry). Ok x) o) old new)
+    (sym found) lowers
 
 -- ---- a scanner of each run
 

@@ -3,7 +3,7 @@ ghost use Rattle.std.specs.Prelude.{IfOk};
 ghost use Rattle.example_store.specs.Words as spec;
 
 use crate::store::Store;
-use lsm_tables::block::{Direction, Error, InternalValue, IterItem, SeqNo};
+use lsm_tables::block::{EntryRef, Error, IterItem, Lending, SeqNo};
 use lsm_tables::merge::{Below, NewestOf};
 use std::alloc::{Allocator, Global};
 use std::collections::BTreeMap;
@@ -85,22 +85,42 @@ fn rows_of(alloc: Global, plain: &Plain) -> Result<Rows, Error> {
 }
 
 // Whether an entry has this key and this value.
-fn is_row<A: Allocator>(item: &InternalValue<A>, want: Option<&(u32, u32)>) -> bool {
+fn is_row(item: &EntryRef<'_>, want: Option<&(u32, u32)>) -> bool {
     match want {
         Some((key, value)) => {
-            item.key.user_key.as_slice() == key.to_be_bytes().as_slice()
-                && item.value.as_slice() == value.to_be_bytes().as_slice()
+            item.user_key == key.to_be_bytes().as_slice()
+                && item.value == value.to_be_bytes().as_slice()
         }
         None => false,
     }
 }
 
 // Compares the next entry, if it has a value.
-fn compare_item<A: Allocator>(item: &InternalValue<A>, rows: &[(u32, u32)], count: &mut Count) {
+fn compare_item(item: &EntryRef<'_>, rows: &[(u32, u32)], count: &mut Count) {
     if !item.is_tombstone() {
         let want = rows.get(count.all);
         count.add(is_row(item, want));
     }
+}
+
+// Counts the rows that no entry was compared with as wrong.
+fn count_missing(rows: &[(u32, u32)], count: &mut Count) {
+    let missing = rows.len().saturating_sub(count.all);
+    count.wrong = count.wrong.saturating_add(missing);
+}
+
+// Compares all entries that a stream lends in turn with the values of these rows.
+fn compare_lent<L: Lending + Drop>(mut items: L, rows: &[(u32, u32)]) -> Result<Count, Error>
+    requires { spec.CanLend L.advances L.can_advance items }
+{
+    let mut count = Count { all: 0, wrong: 0 };
+    while items.advance()? {
+        if let Some(item) = items.entry() {
+            compare_item(&item, rows, &mut count);
+        }
+    }
+    count_missing(rows, &mut count);
+    Ok(count)
 }
 
 // Compares all entries in turn with the values of these rows.
@@ -113,34 +133,15 @@ fn compare_each<I: Iterator<Item = IterItem<A>> + Drop, A: Allocator>(
 {
     let mut count = Count { all: 0, wrong: 0 };
     for item in items {
-        compare_item(&item?, rows, &mut count);
+        compare_item(&item?.as_entry_ref(), rows, &mut count);
     }
-    let missing = rows.len().saturating_sub(count.all);
-    count.wrong = count.wrong.saturating_add(missing);
+    count_missing(rows, &mut count);
     Ok(count)
 }
 
-// Compares all entries from one end. Generic in the source, so that a proof unfolds its parts once
-// for both ends.
-fn compare_from<I: DoubleEndedIterator<Item = IterItem<A>> + Drop, A: Allocator>(
-    end: Direction,
-    items: I,
-    rows: &[(u32, u32)],
-) -> Result<Count, Error>
-    requires can { I.can_next items }
-    requires can_back { I.can_next_back items }
-    requires finite { spec.IsFinite (I.remaining items) }
-{
-    match end {
-        Direction::Front => compare_each(items, rows),
-        Direction::Back => compare_each(items.rev(), rows),
-    }
-}
-
-// Compares newest versions from one end. Generic in the sources: a whole concrete stream makes a
+// Compares newest versions from the back. Generic in the sources: a whole concrete stream makes a
 // proof expensive.
 fn compare_newest<S: DoubleEndedIterator<Item = IterItem<A>> + Drop, A: Allocator>(
-    end: Direction,
     items: Result<NewestOf<S, A>, Error>,
     rows: &[(u32, u32)],
 ) -> Result<Count, Error>
@@ -150,13 +151,12 @@ fn compare_newest<S: DoubleEndedIterator<Item = IterItem<A>> + Drop, A: Allocato
     requires finite { IfOk items (λ s.
         spec.IsFinite (⟦<NewestOf<S, A> as Iterator>⟧.remaining s)) }
 {
-    compare_from(end, items?, rows)
+    compare_each(items?.rev(), rows)
 }
 
-// Compares newest versions below a seqno. Generic in the sources: each layer of a concrete stream
-// costs a proof about half as much again.
+// Compares newest versions below a seqno from the back. Generic in the sources: each layer of a
+// concrete stream costs a proof about half as much again.
 fn compare_below<S: DoubleEndedIterator<Item = IterItem<A>> + Drop, A: Allocator>(
-    end: Direction,
     items: Result<NewestOf<Below<S>, A>, Error>,
     rows: &[(u32, u32)],
 ) -> Result<Count, Error>
@@ -166,19 +166,28 @@ fn compare_below<S: DoubleEndedIterator<Item = IterItem<A>> + Drop, A: Allocator
     requires finite { IfOk items (λ s.
         spec.IsFinite (⟦<NewestOf<Below<S>, A> as Iterator>⟧.remaining s)) }
 {
-    compare_newest(end, items, rows)
+    compare_newest(items, rows)
 }
 
-// Compares all that a store has at a snapshot, from one end. Generic in the allocator: with a
+// Compares all that a store has at a snapshot, from the front. Generic in the allocator: with a
 // concrete one a proof unfolds more of each part.
-fn compare_range<A: Allocator + Clone>(
-    end: Direction,
+fn compare_front<A: Allocator + Clone>(
     store: &Store<A>,
     rows: &[(u32, u32)],
     snapshot: SeqNo,
 ) -> Result<Count, Error> {
     let all = (Bound::Unbounded, Bound::Unbounded);
-    compare_below(end, store.range(all, snapshot), rows)
+    compare_lent(store.range(all, snapshot)?, rows)
+}
+
+// The same from the back.
+fn compare_back<A: Allocator + Clone>(
+    store: &Store<A>,
+    rows: &[(u32, u32)],
+    snapshot: SeqNo,
+) -> Result<Count, Error> {
+    let all = (Bound::Unbounded, Bound::Unbounded);
+    compare_below(store.double_ended_range(all, snapshot), rows)
 }
 
 /// Compares a store with a plain map at a snapshot: point reads of each key, and ranges from both
@@ -192,9 +201,9 @@ pub fn compare(
 ) -> Result<Compared, Error> {
     let mut rows = rows_of(alloc, plain)?;
     let gets = compare_gets(store, plain, snapshot)?;
-    let front = compare_range(Direction::Front, store, &rows, snapshot)?;
+    let front = compare_front(store, &rows, snapshot)?;
     rows.reverse();
-    let back = compare_range(Direction::Back, store, &rows, snapshot)?;
+    let back = compare_back(store, &rows, snapshot)?;
     Ok(Compared {
         moment,
         snapshot,

@@ -4,7 +4,8 @@ ghost use Rattle.std.specs.Prelude.{None, OnErr, OnOk};
 ghost use Rattle.example_store.specs.Words as spec;
 ghost use Rattle.lsm_tables.specs.Words.{OutOfMemory};
 
-use lsm_tables::block::{EntryRef, Error, InternalValue, IterItem, SeqNo, UserKey};
+use lsm_tables::block::{EntryRef, Error, InternalValue, IterItem, Lending, SeqNo, UserKey};
+use lsm_tables::run::{LentEntries, lend_entries_within};
 use std::alloc::{Allocator, Global};
 use std::marker::Model;
 use std::ops::Bound;
@@ -96,6 +97,17 @@ impl<A: Allocator + Clone> Memtable<A> {
     {
         let items = self.items.as_slice();
         Ok(Vec::from_clones(alloc.clone()?, items)?)
+    }
+
+    /// Returns a lending source of the entries within two bounds, in order.
+    pub fn lend<'a>(&'a self, bounds: &(Bound<UserKey<A>>, Bound<UserKey<A>>)) -> LentEntries<'a, A>
+        ensures list { spec.YieldsList ⟦<LentEntries<'a, A> as Lending>⟧.advances spec.nowhere
+            (spec.within bounds.now.0 bounds.now.1 self.now) result }
+        ensures can { spec.CanLend ⟦<LentEntries<'a, A> as Lending>⟧.advances
+            ⟦<LentEntries<'a, A> as Lending>⟧.can_advance result }
+        ensures strict { spec.IsStrict self.now }
+    {
+        lend_entries_within(&self.items, bounds)
     }
 
     /// Returns the entries within two bounds, shared, in order, from both ends.

@@ -41,13 +41,13 @@ module _ {S T : Type 0} (front back : S → Option R → S → Type 0)
   Behind = either_steps back back_too
 
   module _ (stops : Error → Bool) where
-    abbrev Has : S → List R → Type 0
+    abbrev pub Has : S → List R → Type 0
     Has = YieldsExactly (answer_stops stops) front back
 
-    abbrev HasToo : T → List R → Type 0
+    abbrev pub HasToo : T → List R → Type 0
     HasToo = YieldsExactly (answer_stops stops) front_too back_too
 
-    abbrev Either_has : Either S T → List R → Type 0
+    abbrev pub Either_has : Either S T → List R → Type 0
     Either_has s xs = MatchEither s (λ x. Has x xs) (λ y. HasToo y xs)
 
     at_front : (s : Either S T) (xs : List R) (r : Option R) (t : Either S T) → Either_has s xs
@@ -69,7 +69,7 @@ module _ {S T : Type 0} (front back : S → Option R → S → Type 0)
     at_back (Right x) xs r (Right y) has step fine =
         yields_back (answer_stops stops) front_too back_too x xs r y has step fine
 
-    one_yields : (s : Either S T) (xs : List R) → Either_has s xs
+    pub one_yields : (s : Either S T) (xs : List R) → Either_has s xs
         → YieldsExactly (answer_stops stops) InFront Behind s xs
     one_yields s xs has =
         yields_by (answer_stops stops) InFront Behind Either_has at_front at_back s xs has

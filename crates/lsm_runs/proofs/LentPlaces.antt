@@ -92,7 +92,7 @@ entries_below bound (Ok x ∷ rs) = elim (nat_lt x.seqno bound) as
     ]
 entries_below bound (Err e ∷ rs) = entries_below bound rs
 
-below_ascend : (bound : ℕ) (lists : List (List R))
+pub below_ascend : (bound : ℕ) (lists : List (List R))
     → AllByRecursion (λ (rs : List R). Ascends (entries_among rs)) lists
     → AllByRecursion (λ (rs : List R). Ascends (entries_among rs)) (map (below_results bound) lists)
 below_ascend bound [] up = tt
@@ -104,6 +104,14 @@ below_ascend bound (rs ∷ lists) up = (
 
 -- ---- the readers of the spans
 
+-- a reader of a span lends the span's results
+pub reader_lends : {A : Type 0} (s : RunRange A) (run : List OpenTable × RunSpan)
+    → IsRunOf run.0 run.1 s → LendsResults RunLends (span_results run) s
+reader_lends s run is stops memory =
+    subst (λ (xs : List R). YieldsExactly (answer_stops stops) RunLends nowhere s (up_to_error xs))
+    (new_left run.0 run.1 s is)
+    (ends_lending RunLends (run_left s) s (lending_front s) stops memory)
+
 module _ {A : Type 0} (bound : ℕ) where
   abbrev Below_lends : Below (RunRange A) → Option R → Below (RunRange A) → Type 0
   Below_lends = LendsBelow RunLends (λ _. Unit {0}) run_size
@@ -112,10 +120,7 @@ module _ {A : Type 0} (bound : ℕ) where
       → LendsResults Below_lends (below_results bound (span_results run)) (below_of bound s)
   one_lends s run is stops memory =
       (yields_in_front RunLends (MayLendBelow RunLends (λ _. Unit {0}) run_size) s bound
-      (below_of bound s) refl).yields stops (span_results run)
-      (subst (λ (xs : List R). YieldsExactly (answer_stops stops) RunLends nowhere s (up_to_error xs))
-      (new_left run.0 run.1 s is)
-      (ends_lending RunLends (run_left s) s (lending_front s) stops memory))
+      (below_of bound s) refl).yields stops (span_results run) (reader_lends s run is stops memory)
 
   each_lends : (stops : Error → Bool) → stops OutOfMemory ≡ true → (ss : List (RunRange A))
       (spans : List (List OpenTable × RunSpan))

@@ -24,6 +24,7 @@ pub mod LentRunLaws
 pub mod MergeOrder
 pub mod LentTogether
 pub mod LentPlaces
+pub mod LentSources
 pub mod Opening
 pub mod HeldRuns
 pub mod RunWriting

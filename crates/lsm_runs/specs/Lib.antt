@@ -6,6 +6,7 @@ pub mod SeveralRuns
 pub mod SpansRead
 pub mod LentRun
 pub mod LentNewestRuns
+pub mod LentSources
 pub mod RunPlaces
 pub mod Words
 pub mod compaction

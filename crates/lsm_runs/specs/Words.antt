@@ -3,7 +3,10 @@
 pub use Rattle.sst_entries.specs.Entry.{Entry}
 pub use Rattle.sst_entries.specs.Error.{Faults, FaultsFirst, Gives, is_memory}
 pub use Rattle.sst_entries.specs.Lending.{came, entry_of_ref}
-pub use Rattle.sst_entries.specs.Point.{point, within}
+pub use Rattle.sst_entries.specs.Point.{point, within, lower_place, upper_place}
+pub use Rattle.sst_entries.specs.Key.{key_lt}
+pub use Rattle.sst_entries.specs.Span.{front_length}
+pub use Rattle.sst_entries.specs.Strict.{IsStrict}
 pub use Rattle.sst_entries.specs.Stream.{CanYield, Lowers, back_of, first, front_of, nowhere}
 pub use Rattle.sst_blocks.specs.Opened.{none_opened}
 pub use Rattle.lsm_iters.specs.block_index.Yielded.{YieldsEnding}
@@ -44,6 +47,10 @@ pub use Rattle.lsm_runs.specs.LentRun.{over_run}
 pub use Rattle.lsm_sorted.specs.LentBelow.{LendsBelow, MayLendBelow, lent_below, lent_passes}
 pub use Rattle.lsm_sorted.specs.LentBelow.{only_below}
 pub use Rattle.lsm_runs.specs.LentNewestRuns.{LendsNewest, RunsLendNewest}
+pub use Rattle.lsm_runs.specs.LentSources.{LendsFirst, SourcesLendNewest}
+pub use Rattle.lsm_runs.specs.LentSources.{SourcesYieldNewestBelow}
+pub use Rattle.either.specs.Either.{MatchEither, either}
+pub use Rattle.either.specs.Iterator.{either_steps}
 pub use Rattle.std.specs.Arc.{arc_value}
 pub use Rattle.std.specs.Iterator.{IsFinite, at_most}
 pub use Rattle.std.specs.Option.{option_and_then, option_map}

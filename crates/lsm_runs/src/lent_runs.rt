@@ -20,7 +20,7 @@ pub type LentNewestOfRunsAt<A> = LentNewestOf<Below<RunReader<A>>, A>;
 
 // The newest versions of lending sources. Generic, so that a proof does not unfold a reader's
 // parts.
-fn lent_stream<L: Lending + Drop, A: Allocator + Clone>(
+pub(crate) fn lent_stream<L: Lending + Drop, A: Allocator + Clone>(
     alloc: A,
     sources: Vec<L, A>,
 ) -> Result<LentNewestOf<L, A>, Error>

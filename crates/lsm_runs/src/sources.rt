@@ -57,14 +57,10 @@ pub fn range_sources_at<S: DoubleEndedIterator<Item = IterItem<A>> + Drop, A: Al
     // For tables of lists in runs in order, and sources that each yield the part of a sorted list
     // within the bounds. For every list of ends, it yields the newest versions below `seqno` of all
     // these lists within the bounds.
-    ensures list { let gives = ⟦<NewestOfSourcesAt<S, A> as Iterator>⟧.next_gives in
-        let back_gives = ⟦<NewestOfSourcesAt<S, A> as DoubleEndedIterator>⟧.next_back_gives in
-        (lists : spec.TableLists) → spec.RunsHold runs.now lists →
-        (further : List (List spec.Entry)) →
-        spec.YieldWithin S.next_gives S.next_back_gives range.0 range.1 sources.items further →
-        let all = spec.union_in (map spec.single further ++ lists) in
-        let found = spec.newest (spec.numbered_below seqno (spec.within range.0 range.1 all)) in
-        IfOk result (λ s. spec.YieldsList gives back_gives found s) }
+    ensures list { spec.SourcesYieldNewestBelow S.next_gives S.next_back_gives
+        ⟦<NewestOfSourcesAt<S, A> as Iterator>⟧.next_gives
+        ⟦<NewestOfSourcesAt<S, A> as DoubleEndedIterator>⟧.next_back_gives seqno range.0 range.1
+        runs.now sources.items result }
     // If every seqno is below `seqno`, it yields the newest versions of all entries within the
     // bounds.
     ensures whole { let gives = ⟦<NewestOfSourcesAt<S, A> as Iterator>⟧.next_gives in

@@ -7,7 +7,7 @@ pub use Rattle.sst_entries.proofs.KeyLemmas.{hit_key, lt_other, same_itself}
 pub use Rattle.sst_entries.proofs.Lists.{all_append, all_behind, all_front, all_more}
 pub use Rattle.sst_entries.proofs.OrderLemmas.{before_trans, number_total, strict_at}
 pub use Rattle.sst_entries.proofs.Refusals.{memory_is}
-pub use Rattle.sst_entries.proofs.StreamLemmas.{yields_front, map_append}
+pub use Rattle.sst_entries.proofs.StreamLemmas.{can_front, can_now, yields_front, map_append}
 pub use Rattle.sst_entries.proofs.VecSource.{vec_yields}
 pub use Rattle.sst_blocks.proofs.Points.{parted, past_parted, read_hit, read_other, read_past}
 pub use Rattle.sst_blocks.specs.table.Facts.{is_weak}

@@ -10,6 +10,7 @@ pub use Rattle.sst_entries.specs.Span.{front_length}
 pub use Rattle.sst_entries.specs.Lending.{came, entry_cmp, entry_of_ref}
 pub use Rattle.sst_entries.specs.Stream.{CanYield, YieldsExactly, answer_stops, nowhere, ok_results}
 pub use Rattle.sst_entries.specs.Strict.{IsStrict, is_before, version_cmp}
+pub use Rattle.sst_entries.specs.Strict.{may_follow}
 unfoldable pub use Rattle.sst_entries.specs.Strict.{IsStrictAfter}
 pub use Rattle.sst_entries.specs.declared.error.Error.{Error}
 pub use Rattle.sst_entries.specs.declared.error.Error.TheVariants.{KeyTooLong, OutOfMemory}
@@ -44,7 +45,7 @@ pub use Rattle.lsm_readers.specs.declared.verify.Finding.{Finding}
 pub use Rattle.lsm_readers.specs.Verification.{bytes_read, steps_of, verifying}
 pub use Rattle.lsm_runs.specs.RunLists.{AreRunsInOrder, RunsHold, TableLists, each_run}
 pub use Rattle.lsm_runs.specs.RunLists.{YieldWithin, YieldsList, HoldLists, HoldsList, RunsHoldLists}
-pub use Rattle.lsm_runs.specs.RunLists.{YieldTogether, single}
+pub use Rattle.lsm_runs.specs.RunLists.{CanLend, YieldTogether, single}
 pub use Rattle.lsm_run_parts.specs.RunParts.{range_of}
 pub use Rattle.lsm_runs.specs.SeveralRuns.{runs_result, union_in}
 pub use Rattle.lsm_sorted.specs.Leading.{leading_of}

@@ -1,4 +1,4 @@
 //! Merging of sorted sources, the newest version of each key, and the entries below a sequence
 //! number; by value and borrowed.
 
-pub use lsm_sorted::{Below, Merger, MvccStream, NewestOf, each_below, newest_of};
+pub use lsm_sorted::{Below, LendingMerger, Merger, MvccStream, NewestOf, each_below, newest_of};

@@ -4,53 +4,117 @@ ghost use Rattle.example_store.specs.Words as spec;
 ghost use Rattle.lsm_tables.specs.Words.{OutOfMemory};
 
 use crate::store::Store;
-use lsm_tables::block::{Error, IterItem, SeqNo, UserKey};
-use lsm_tables::run::{NewestOfSourcesAt, Run, range_sources_at};
+use lsm_tables::block::{Error, IterItem, Lending, SeqNo, UserKey};
+use lsm_tables::run::{
+    LentEntries, LentNewestOfSourcesAt, NewestOfSourcesAt, Run, lend_sources_at, range_sources_at,
+};
 use lsm_tables::table::Table;
 use std::alloc::Allocator;
 use std::ops::Bound;
 use std::sync::Arc;
 use std::vec::IntoIter;
 
-/// The stream that [`Store::range`] returns: the newest version of each key visible at a snapshot,
-/// from both ends.
-pub type Range<A> = NewestOfSourcesAt<IntoIter<IterItem<A>, A>, A>;
+/// The stream that [`Store::range`] returns: it lends the newest version of each key visible at a
+/// snapshot.
+pub type Range<'a, A> = LentNewestOfSourcesAt<LentEntries<'a, A>, A>;
+
+/// The stream that [`Store::double_ended_range`] returns: the newest version of each key visible at
+/// a snapshot, from both ends.
+pub type DoubleEndedRange<A> = NewestOfSourcesAt<IntoIter<IterItem<A>, A>, A>;
 
 impl<A: Allocator + Clone> Store<A> {
+    /// Returns the newest version of each key within two bounds visible at `snapshot`, ascending.
+    ///
+    /// It lends the entries from the memtable and from the blocks of the tables. For a key that was
+    /// deleted last it yields a tombstone, or nothing.
+    ///
+    /// # Errors
+    ///
+    /// [`Error::OutOfMemory`] only.
+    pub fn range<'a>(
+        &'a self,
+        bounds: (Bound<UserKey<A>>, Bound<UserKey<A>>),
+        snapshot: SeqNo,
+    ) -> Result<Range<'a, A>, Error>
+        // At a snapshot that is kept, it shows what the history of writes says.
+        ensures returned { let advances = ⟦<Range<'a, A> as Lending>⟧.advances in
+            (ws : List spec.Entry) → spec.IsReported self.now ws → self.now.oldest ≤ snapshot →
+            let said = spec.range_in ws bounds.0 bounds.1 snapshot in
+            IfOk result (λ s. (es : List spec.Entry) ×
+            spec.YieldsList advances spec.nowhere es s × (spec.all_shown es ≡ said)) }
+        // At any snapshot, it yields the entries of the memtable and of the tables' lists.
+        ensures read { let advances = ⟦<Range<'a, A> as Lending>⟧.advances in
+            (lists : spec.TableLists) → spec.RunsHoldLists self.now.runs lists →
+            let all = spec.union_in (spec.single self.now.recent ∷ lists) in
+            IfOk result (spec.YieldsList advances spec.nowhere (spec.newest
+            (spec.numbered_below snapshot (spec.within bounds.0 bounds.1 all)))) }
+        ensures can { IfOk result (spec.CanLend ⟦<Range<'a, A> as Lending>⟧.advances
+            ⟦<Range<'a, A> as Lending>⟧.can_advance) }
+        ensures memory { IfErr result (λ e. e ≡ OutOfMemory) }
+    {
+        let recent = self.memtable.lend(&bounds);
+        lend_beside(&self.alloc, &self.runs, recent, bounds, snapshot)
+    }
+
     /// Returns the newest version of each key within two bounds visible at `snapshot`, from both
-    /// ends.
+    /// ends, shared. [`Store::range`] is faster.
     ///
     /// For a key that was deleted last it yields a tombstone, or nothing.
     ///
     /// # Errors
     ///
     /// [`Error::OutOfMemory`] only.
-    pub fn range(
+    pub fn double_ended_range(
         &self,
         bounds: (Bound<UserKey<A>>, Bound<UserKey<A>>),
         snapshot: SeqNo,
-    ) -> Result<Range<A>, Error>
+    ) -> Result<DoubleEndedRange<A>, Error>
         // At a snapshot that is kept, it shows what the history of writes says.
-        ensures returned { let gives = ⟦<Range<A> as Iterator>⟧.next_gives in
-            let back_gives = ⟦<Range<A> as DoubleEndedIterator>⟧.next_back_gives in
+        ensures returned { let gives = ⟦<DoubleEndedRange<A> as Iterator>⟧.next_gives in
+            let back_gives = ⟦<DoubleEndedRange<A> as DoubleEndedIterator>⟧.next_back_gives in
             (ws : List spec.Entry) → spec.IsReported self.now ws → self.now.oldest ≤ snapshot →
-            IfOk result (λ s. (es : List spec.Entry) × spec.YieldsList gives back_gives es s ×
-            (spec.all_shown es ≡ spec.all_shown (spec.newest (spec.numbered_below snapshot
-            (spec.within bounds.0 bounds.1 (spec.sort_entries ws)))))) }
+            let said = spec.range_in ws bounds.0 bounds.1 snapshot in
+            IfOk result (λ s. (es : List spec.Entry) ×
+            spec.YieldsList gives back_gives es s × (spec.all_shown es ≡ said)) }
         // At any snapshot, it yields the entries of the memtable and of the tables' lists.
-        ensures read { let gives = ⟦<Range<A> as Iterator>⟧.next_gives in
-            let back_gives = ⟦<Range<A> as DoubleEndedIterator>⟧.next_back_gives in
+        ensures read { let gives = ⟦<DoubleEndedRange<A> as Iterator>⟧.next_gives in
+            let back_gives = ⟦<DoubleEndedRange<A> as DoubleEndedIterator>⟧.next_back_gives in
             (lists : spec.TableLists) → spec.RunsHoldLists self.now.runs lists →
             IfOk result (spec.YieldsList gives back_gives (spec.newest (spec.numbered_below snapshot
             (spec.within bounds.0 bounds.1 (spec.union_in (spec.single self.now.recent ∷ lists)))))) }
-        ensures next { IfOk result (λ s. ⟦<Range<A> as Iterator>⟧.can_next s) }
+        ensures next { IfOk result (λ s. ⟦<DoubleEndedRange<A> as Iterator>⟧.can_next s) }
         ensures next_back { IfOk result (λ s.
-            ⟦<Range<A> as DoubleEndedIterator>⟧.can_next_back s) }
+            ⟦<DoubleEndedRange<A> as DoubleEndedIterator>⟧.can_next_back s) }
         ensures memory { IfErr result (λ e. e ≡ OutOfMemory) }
     {
         let recent = self.memtable.within(&self.alloc, &bounds);
         range_beside(&self.alloc, &self.runs, recent, bounds, snapshot)
     }
+}
+
+// A range at a snapshot over runs and one further lending source within the bounds. Generic in the
+// source, so that a proof does not unfold its parts.
+fn lend_beside<L: Lending + Drop, A: Allocator + Clone>(
+    alloc: &A,
+    runs: &[Arc<Run<Table<A>, A>, A>],
+    source: L,
+    bounds: (Bound<UserKey<A>>, Bound<UserKey<A>>),
+    snapshot: SeqNo,
+) -> Result<LentNewestOfSourcesAt<L, A>, Error>
+    ensures list { let advances = ⟦<LentNewestOfSourcesAt<L, A> as Lending>⟧.advances in
+        (lists : spec.TableLists) → spec.RunsHold runs.now lists → (es : List spec.Entry) →
+        spec.IsStrict es →
+        spec.YieldsList L.advances spec.nowhere (spec.within bounds.0 bounds.1 es) source →
+        let all = spec.union_in (spec.single es ∷ lists) in
+        IfOk result (spec.YieldsList advances spec.nowhere (spec.newest
+        (spec.numbered_below snapshot (spec.within bounds.0 bounds.1 all)))) }
+    ensures can { spec.CanLend L.advances L.can_advance source →
+        IfOk result (spec.CanLend ⟦<LentNewestOfSourcesAt<L, A> as Lending>⟧.advances
+        ⟦<LentNewestOfSourcesAt<L, A> as Lending>⟧.can_advance) }
+    ensures memory { IfErr result (λ e. e ≡ OutOfMemory) }
+{
+    let (alloc, sources) = one_source(alloc, Ok(source))?;
+    lend_sources_at(alloc, runs, sources, bounds, snapshot)
 }
 
 // A range at a snapshot over runs and one further source within the bounds, which may have failed.

@@ -4,12 +4,7 @@ use Rattle.example_store.proofs.Refusing.{wanted}
 use Rattle.example_store.proofs.store.order.are_strict.Goals as goal
 
 pub come_in_order-requires : goal.come_in_order-requires
-come_in_order-requires g c =
-    let scanners = c.in_ok-scanners.scanners.items in
-    record {
-      can = all_of _ scan_asked scanners;
-      finite = all_of _ (λ s. tt) scanners;
-    }
+come_in_order-requires g c = all_of _ scan_asked c.in_ok-scanners.scanners.items
 
 pub returns-in_err-scanners-clause-memory : goal.returns-in_err-scanners-clause-memory
 returns-in_err-scanners-clause-memory g c lists held some =

@@ -1,13 +1,14 @@
 use Rattle.std.proofs.Common.{List}
-use Rattle.lsm_tables.specs.Words.{YieldsList, Entry}
+use Rattle.lsm_tables.specs.Words.{CanLend, Entry, YieldsList}
 use Rattle.lsm_tables.proofs.TableLaws.{nowhere}
 use Rattle.example_store.proofs.Order.{ComesOn}
 use Rattle.example_store.proofs.store.order.comes_in_order.Given as goal
 
-abbrev pub invariant-loop-item : goal.invariant-loop-item
-invariant-loop-item g l = record {
-  can : (goal.iterator-loop-item g).can_next l.item-iterator;
-  finite : (goal.iterator-loop-item g).is_finite l.item-iterator;
-  on : (es : List Entry) → YieldsList g.I.Iterator.next_gives nowhere es l.fn.items
-      → ComesOn g.I.Iterator.next_gives es l.last l.item-iterator;
-}
+abbrev pub invariant-loop-last : goal.invariant-loop-last
+invariant-loop-last g l =
+    CanLend g.L.Lending.advances g.L.Lending.can_advance l.items
+    × ((es : List Entry) → YieldsList g.L.Lending.advances nowhere es l.fn.items
+    → ComesOn g.L.Lending.advances es l.last l.items)
+
+abbrev pub decreases-loop-last : goal.decreases-loop-last
+decreases-loop-last g l = g.L.Lending.left l.items

@@ -13,7 +13,7 @@ returns-clause-list g c lists held some =
     let ts = arc_value c.in_ok-clone.field-0 in
     let same : ts ≡ arc_value c.args.run.now = c.in_ok-clone.ensures.cases in
     let is = sym (whole_run ts (subst (λ (us : List OpenTable). 0 < length us) (sym same) c.requires) ∙ same) in
-    c.culled.ensures.list lists some.1 (subst (λ (us : List OpenTable). HoldLists us lists) is held)
+    c.culled.ensures.lends_list lists some.1 (subst (λ (us : List OpenTable). HoldLists us lists) is held)
 
 pub returns-clause-memory : goal.returns-clause-memory
 returns-clause-memory g c lists held some =
