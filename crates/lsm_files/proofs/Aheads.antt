@@ -88,38 +88,32 @@ abbrev sizes : ℕ → Result ℕ Error
 sizes n = Ok n
 
 -- the block of a header that was read
-module _ (body : List ℕ) (position : ℕ) (kind : BlockType) where
-  same_head : (head : List ℕ) → length head ≡ 24 → IsPartAt body position head
-      → (position + 24 ≤ length body) × (head ≡ slice_range body position (position + 24))
-  same_head head size at = (
-    omega (arith, at.within, size),
-    at.is ∙ ap (λ (n : ℕ). slice_range body position (position + n)) size,
-  )
+module _ (body : List ℕ) (position : ℕ) (kind : BlockType) (head seen : List ℕ)
+    (size : length head ≡ 24) (at : IsPartAt body position head) (same : seen ≡ head) where
+  within : position + 24 ≤ length body
+  within = omega (arith, at.within, size)
+
+  seen_is : head_size kind seen ≡ head_size kind (slice_range body position (position + 24))
+  seen_is = ap (head_size kind) (same ∙ at.is
+      ∙ ap (λ (n : ℕ). slice_range body position (position + n)) size)
 
   -- its header has a fault
-  pub head_fails : (head : List ℕ) (e : Error) → length head ≡ 24 → IsPartAt body position head
-      → Err e ≡ head_size kind head → load_at_result body position kind ≡ Err e
-  head_fails head e size at is =
-      let p = same_head head size at in
-      fails_by_head body position kind e (sym (is ∙ ap (head_size kind) p.1)) p.0
+  pub head_fails : (e : Error) → Err e ≡ head_size kind seen
+      → load_at_result body position kind ≡ Err e
+  head_fails e is = fails_by_head body position kind e (sym (is ∙ seen_is)) within
 
   -- it reaches past the body
-  pub head_passes : (head : List ℕ) (n : ℕ) → length head ≡ 24 → IsPartAt body position head
-      → Ok n ≡ head_size kind head → length body < position + n
+  pub head_passes : (n : ℕ) → Ok n ≡ head_size kind seen → length body < position + n
       → load_at_result body position kind ≡ Err Truncated
-  head_passes head n size at is past =
-      let p = same_head head size at in
-      past_by_size body position kind n (sym (is ∙ ap (head_size kind) p.1)) p.0 past
+  head_passes n is past = past_by_size body position kind n (sym (is ∙ seen_is)) within past
 
   -- its bytes decode as it loads
-  pub head_loads : (head part : List ℕ) (n : ℕ) → length head ≡ 24 → IsPartAt body position head
-      → Ok n ≡ head_size kind head → length part ≡ n → IsPartAt body position part
-      → decode_block kind part ≡ load_at_result body position kind
-  head_loads head part n size at is len part_at =
-      let p = same_head head size at in
+  pub head_loads : (part : List ℕ) (n : ℕ) → Ok n ≡ head_size kind seen → length part ≡ n
+      → IsPartAt body position part → decode_block kind part ≡ load_at_result body position kind
+  head_loads part n is len part_at =
       decode_part body position kind part part_at.within part_at.is
-      ∙ sym (loads_by_size body position kind (length part)
-      (sym (ap sizes len ∙ is ∙ ap (head_size kind) p.1)) p.0 part_at.within)
+      ∙ sym (loads_by_size body position kind (length part) (sym (ap sizes len ∙ is ∙ seen_is))
+      within part_at.within)
 
 -- ---- errors of reading a part
 

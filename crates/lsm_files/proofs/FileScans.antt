@@ -88,22 +88,22 @@ module _ (reads : Reads) (u : Scan) where
 
 none_by : (u : Scan) (es : List Entry) (r : Result Bool FileError) (t : Scan) → u.entries ≡ es
     → (r, t) ≡ in_file (lend_next u es) → r ≡ Ok false → (u.entries ≡ []) × (t ≡ unlend u)
-none_by u [] r t none is no = (none, ap (λ (p : Result Bool FileError × Scan). p.1) is)
-none_by u (e ∷ es) r t stands is no = first (lifted_result u.global_seqno e) is
+none_by u [] r t none is stop = (none, ap (λ (p : Result Bool FileError × Scan). p.1) is)
+none_by u (e ∷ es) r t stands is stop = first (lifted_result u.global_seqno e) is
   where
     first : (one : Result Entry Error) → (r, t) ≡ in_file (lend_first u es one)
         → (u.entries ≡ []) × (t ≡ unlend u)
     first (Ok x) is =
         let wrong : Ok true ≡ Ok false = sym (ap (λ (p : Result Bool FileError × Scan). p.0) is)
-        ∙ no in absurd cc
+        ∙ stop in absurd cc
     first (Err f) is =
         let wrong : Err (Table f) ≡ Ok false =
-        sym (ap (λ (p : Result Bool FileError × Scan). p.0) is) ∙ no in absurd cc
+        sym (ap (λ (p : Result Bool FileError × Scan). p.0) is) ∙ stop in absurd cc
 
 -- no entry is left in the block
 pub no_entry : (u t : Scan) (r : Result Bool FileError)
     → (r, t) ≡ in_file (lend_next u u.entries) → r ≡ Ok false → (u.entries ≡ []) × (t ≡ unlend u)
-no_entry u t r is no = none_by u u.entries r t refl is no
+no_entry u t r is stop = none_by u u.entries r t refl is stop
 
 -- ---- what a step within the block leaves
 
@@ -134,8 +134,8 @@ error_ends u t e is = subst (Left u) (sym is) (left_by u u.entries)
 -- ---- the end of a block
 
 not_some : (n : ℕ) → (0 < n → ⊥) → n ≡ 0
-not_some zero no = refl
-not_some (suc n) no = absurd (no (omega arith))
+not_some zero never = refl
+not_some (suc n) never = absurd (never (omega arith))
 
 -- no block is left
 pub over : (s u t : Scan) → scan_left u ≡ scan_left s → u.entries ≡ [] → t ≡ unlend u

@@ -6,3 +6,4 @@ pub mod Gets
 pub mod Opened
 pub mod FileScans
 pub mod Aheads
+pub mod ManyStored

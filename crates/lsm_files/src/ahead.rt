@@ -140,8 +140,5 @@ fn decoded<A: Allocator + Clone>(
     ensures kind { IfOk result (λ b. b.kind ≡ kind) }
     ensures size { IfOk result (λ b. length b.payload + spec.header_len ≡ length bytes) }
 {
-    match alloc.clone() {
-        Ok(alloc) => Ok(Block::decode(alloc, kind, bytes)?),
-        Err(_) => Err(FileError::Table(Error::OutOfMemory)),
-    }
+    Ok(Block::decode(alloc.clone()?, kind, bytes)?)
 }

@@ -57,10 +57,7 @@ impl<R: ReadAt + Drop, A: Allocator + Clone> FileTable<R, A> {
             spec.FileGives R.reads (λ found. found.items) result
             (Ok (map (λ q. spec.point all q.key q.seqno) queries.now)) }
     {
-        let alloc = match self.alloc.clone() {
-            Ok(alloc) => alloc,
-            Err(_) => return Err(FileError::Table(Error::OutOfMemory)),
-        };
+        let alloc = self.alloc.clone()?;
         let file = FileBlocks::new(&self.file, &self.alloc, self.body_len);
         let mut source = Keeping::new(file);
         let found = read_each(&mut source, &self.inner, queries, alloc);

@@ -181,7 +181,8 @@ impl<R: ReadAt, A: Allocator + Clone> FileScanner<'_, R, A> {
         match lift_seqno(entry.seqno, self.global_seqno) {
             Ok(_) => Ok(true),
             Err(error) => {
-                self.end();
+                self.block.end();
+                self.blocks_left = 0;
                 Err(FileError::Table(error))
             }
         }

@@ -12,5 +12,5 @@ returns-in-Ok-clause-part g c known =
     let part = c.in-Ok.part in
     let size : length part ≡ c.args.handle.now.size = omega (arith, c.in-Ok.ensures.len, c.from-size.ensures, c.size.ensures) in
     let at = subst (λ (n : ℕ). IsPartAt bytes n part) c.offset-2.ensures (c.in-Ok.ensures.part known) in
-    let ends : c.args.handle.now.offset + length part ≤ length (body_of bytes) = omega (arith, size, (c.self.invariant known).0, c.if-self-size.false, c.if-self-size-2.false, c.offset.ensures, c.from-size.ensures, c.size.ensures) in
+    let ends : c.args.handle.now.offset + length part ≤ length (body_of bytes) = omega (arith, size, c.self.invariant.0 known, c.if-self-size.false, c.if-self-size-2.false, c.offset.ensures, c.from-size.ensures, c.size.ensures) in
     (subst (λ (s : List ℕ × Opened × Bool). IsPartAt (body_of s.0) c.args.handle.now.offset part) c.self.view_is (part_of_body bytes c.args.handle.now.offset part at ends), size)

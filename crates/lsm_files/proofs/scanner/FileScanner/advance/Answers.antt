@@ -1,9 +1,9 @@
 use Rattle.std.proofs.Common.{◌≡◌, ◌∙◌, true, false, Bool, List, ap, sym, subst, refl}
-use Rattle.std.specs.Prelude.{Option, Ok, Err, Result}
+use Rattle.std.specs.Prelude.{Option, None, Ok, Err, Result}
 use Rattle.std.proofs.lemmas.Result.{err_from_is_err_and}
 use Rattle.sst_entries.specs.Entry.{Entry}
 use Rattle.sst_entries.specs.declared.error.Error.{Error}
-use Rattle.lsm_readers.specs.Scan.{Scan, scan_left}
+use Rattle.lsm_readers.specs.Scan.{IsEndedScan, Scan, scan_left}
 use Rattle.lsm_files.specs.declared.error.FileError.{FileError}
 use Rattle.lsm_files.specs.Results.{FileGives}
 use Rattle.lsm_files.specs.Scan.{next_of, rest_of}
@@ -11,7 +11,7 @@ use Rattle.lsm_files.proofs.FileScans.{entry_came, error_ends, no_block, no_entr
 use Rattle.lsm_files.proofs.scanner.FileScanner.advance.Goals as goal
 
 more_or : (more : Bool) → more ≡ true → (r : Result Bool FileError) → r ≡ Ok more → r ≡ Ok false → ⊥
-more_or more some r is no = let wrong : Ok true ≡ Ok false = ap (λ (b : Bool). Ok b) (sym some) ∙ sym is ∙ no in absurd cc
+more_or more some r is stop = let wrong : Ok true ≡ Ok false = ap (λ (b : Bool). Ok b) (sym some) ∙ sym is ∙ stop in absurd cc
 
 pub returns-in_err-next_entry-clause-returned : goal.returns-in_err-next_entry-clause-returned
 returns-in_err-next_entry-clause-returned g c known =
@@ -25,13 +25,13 @@ pub returns-in_err-next_entry-clause-ended : goal.returns-in_err-next_entry-clau
 returns-in_err-next_entry-clause-ended g c =
     let p = err_from_is_err_and c.from_residual.result c.from_residual.ensures.1 in
     let f = c.in_err-next_entry.field-0.0 in
-    rw (p.1, p.2, error_ends c.loop-self.self c.next_entry.new.self f c.in_err-next_entry.ensures) (refl, refl)
+    rw p.1 (subst IsEndedScan (sym (error_ends c.loop-self.self c.next_entry.new.self f c.in_err-next_entry.ensures)) (refl, refl))
 
 pub returns-in_err-next_entry-clause-none : goal.returns-in_err-next_entry-clause-none
 returns-in_err-next_entry-clause-none g c =
     let p = err_from_is_err_and c.from_residual.result c.from_residual.ensures.1 in
     let f = c.in_err-next_entry.field-0.0 in
-    rw (p.1, p.2, error_ends c.loop-self.self c.next_entry.new.self f c.in_err-next_entry.ensures) refl
+    rw p.1 (subst (λ (s : Scan). s.lent ≡ None) (sym (error_ends c.loop-self.self c.next_entry.new.self f c.in_err-next_entry.ensures)) refl)
 
 pub returns-then-branch-clause-returned : goal.returns-then-branch-clause-returned
 returns-then-branch-clause-returned g c known =

@@ -37,8 +37,8 @@ returns-clause-opened g c known =
     let found = c.point_in-found.result in
     let loads = (table_answer c.args.self.now c.args.key.now c.args.seqno).loads in
     let made = subst (λ (r : Read (Option Entry)). Opens found r.loads c.new-source.result.1 c.point_in-found.new.source.1) is (c.point_in-found.ensures.opened (to_known g.R.ReadAt.reads known)) in
-    let returned = subst (λ (o : Opened). Opens found loads c.new-source.result.1 o) (sym c.opened.ensures) made in
-    let begun = subst (λ (o : Opened). Opens found loads o c.opened.result) c.new-source.ensures.none returned in
+    let returned = subst (λ (o : Opened). Opens found loads c.new-source.result.1 o) (sym c.opened-opened.ensures) made in
+    let begun = subst (λ (o : Opened). Opens found loads o c.opened-opened.result) c.new-source.ensures.none returned in
     passed_opens g.R.ReadAt.reads c.result.result found loads _ _ c.result.ensures.err begun
 
 pub returns-clause-few : goal.returns-clause-few

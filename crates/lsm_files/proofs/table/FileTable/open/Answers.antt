@@ -13,9 +13,6 @@ returns-in_err-toc-clause-returned g c known =
     trailer_refuses g.R.ReadAt.reads (λ (t : OpenTable). t.parts) bytes (parts_result bytes c.args.global_seqno c.args.pin_filter c.args.pin_index)
     c.from_residual.result c.in_err-toc.field-0.0 c.from_residual.ensures.1 (c.in_err-toc.ensures.fault known)
 
-pub read_inner-inner-requires : goal.read_inner-inner-requires
-read_inner-inner-requires g c known = c.in_ok-toc.ensures.toc known
-
 pub returns-in_err-inner-clause-returned : goal.returns-in_err-inner-clause-returned
 returns-in_err-inner-clause-returned g c known =
     let bytes = g.R.ReadAt.bytes c.args.file in

@@ -11,7 +11,7 @@ use Rattle.lsm_readers.specs.point.Table.{OpenTable}
 use Rattle.lsm_readers.proofs.Scans.{first_left, same_left}
 use Rattle.lsm_files.specs.Results.{FileFaults}
 use Rattle.lsm_files.proofs.FileScans.{scan_opened, scan_refused}
-use Rattle.lsm_files.proofs.scanner.FileTable.scan.Goals as goal
+use Rattle.lsm_files.proofs.table.FileTable.scan.Goals as goal
 
 pub new-blocks-requires : goal.new-blocks-requires
 new-blocks-requires g c known = (c.self.invariant known).0
