@@ -3,7 +3,6 @@ use Rattle.std.proofs.Common.{◌≡◌, refl, sym, ◌∙◌, ap, subst, ℕ, z
 use Rattle.std.proofs.Common.{true, false, List, [], ◌∷◌, ◌++◌, get_or, length, take, arith}
 use Rattle.std.specs.Prelude.{Option, Some, None, Result, Ok, Err, IfErr, IsErrAnd, is_some, map}
 use Rattle.std.specs.Option.{option_map}
-use Rattle.sst_entries.specs.Stream.{Lowers}
 use Rattle.std.specs.List.{AllByRecursion, AllZip}
 use Rattle.std.proofs.lemmas.Bool.{cases_Bool}
 use Rattle.std.proofs.lemmas.List.{map-append, take_more}
@@ -27,6 +26,9 @@ only_memory (Err y) e is fine =
     ]
 
 -- ---- an iterator whose entries are compared one by one
+
+abbrev item : Entry → Result Entry Error
+item e = Ok e
 
 module _ {S : Type 0} (next : S → Option (Result Entry Error) → S → Type 0) where
   yielded_one : (rest : List Entry) (s t : S) (e : Entry) → YieldsList next nowhere rest s
@@ -105,14 +107,12 @@ module _ {S : Type 0} (next : S → Option (Result Entry Error) → S → Type 0
 
   -- a step that lends an entry, or nothing
   pub lent_step : (s t : S) (e : Entry) (lent : Option Entry) → Some e ≡ lent
-      → next s (option_map {B = Result Entry Error} (λ (x : Entry). Ok x) lent) t
-      → next s (Some (Ok e)) t
+      → next s (option_map item lent) t → next s (Some (Ok e)) t
   lent_step s t e lent found goes =
-      subst (λ (o : Option Entry).
-      next s (option_map {B = Result Entry Error} (λ (x : Entry). Ok x) o) t) (sym found) goes
+      subst (λ (o : Option Entry). next s (option_map item o) t) (sym found) goes
 
   pub none_step : (s t : S) (lent : Option Entry) → is_some lent ≡ false
-      → next s (option_map {B = Result Entry Error} (λ (x : Entry). Ok x) lent) t → next s None t
+      → next s (option_map item lent) t → next s None t
   none_step s t None none goes = goes
   none_step s t (Some e) none goes = absurd cc
 
@@ -147,19 +147,6 @@ module _ {S : Type 0} (next : S → Option (Result Entry Error) → S → Type 0
   pub comes_fine : (es : List Entry) (last : Option Entry) (s t : S) (e : Error)
       → ComesOn es last s → next s (Some (Err e)) t → is_memory e ≡ false → ⊥
   comes_fine es last s t e h step = yielded_fine h.rest s t e h.yields step
-
--- if an entry is lent, one was yielded
-pub not_more : (lent : Option Entry) → None ≡ lent → is_some lent ≡ true → ⊥
-not_more None none some = absurd cc
-not_more (Some e) none some = absurd cc
-
--- a step that yields an entry lowers the bound on those that remain
-pub fewer : (e : Entry) (lent : Option Entry) (old new : ℕ) → Some e ≡ lent
-    → Lowers {A = Result Entry Error} (option_map (λ (x : Entry). Ok x) lent) old new → new < old
-fewer e lent old new found lowers =
-    subst (λ (o : Option Entry).
-    Lowers {A = Result Entry Error} (option_map (λ (x : Entry). Ok x) o) old new)
-    (sym found) lowers
 
 -- ---- a scanner of each run
 

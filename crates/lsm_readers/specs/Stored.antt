@@ -6,6 +6,8 @@ use Rattle.sst_blocks.specs.Sections.{body_of, trailer_fault}
 use Rattle.sst_entries.specs.declared.error.Error.{Error}
 use Rattle.sst_entries.specs.declared.error.Error.TheVariants.{GlobalSeqNoTooLarge}
 use Rattle.sst_entries.specs.Entry.{Entry}
+use Rattle.sst_entries.specs.Error.{Gives}
+use Rattle.sst_entries.specs.Point.{point}
 use Rattle.sst_entries.specs.Strict.{IsStrict}
 use Rattle.sst_blocks.specs.filter.KeyHash.{hash_of}
 use Rattle.sst_blocks.specs.declared.block_type.BlockType.{BlockType}
@@ -21,11 +23,12 @@ use Rattle.sst_blocks.specs.table.Index.{last_entry}
 use Rattle.sst_blocks.specs.table.Partitions.{last_end}
 use Rattle.sst_blocks.specs.table.Parts.{joined_parts}
 use Rattle.lsm_readers.specs.declared.regions.ParsedRegions.{ParsedRegions}
-use Rattle.lsm_readers.specs.point.Answer.{filter_admits}
+use Rattle.lsm_readers.specs.point.Answer.{filter_admits, lift}
 use Rattle.lsm_readers.specs.point.IndexKinds.{handles_result}
 use Rattle.lsm_readers.specs.point.Meta.{Facts, meta_result}
 use Rattle.lsm_readers.specs.OfList.{ends_of}
 use Rattle.lsm_readers.specs.point.Parts.{places_result, tops_result}
+use Rattle.lsm_readers.specs.point.Table.{OpenTable}
 
 -- ---- data blocks
 
@@ -142,3 +145,11 @@ pub record StoresList (bytes : List ℕ) (es : List Entry) : Type 0 where
 abbrev pub fits_result : List Entry → ℕ → Result (Unit {0}) Error
 fits_result es g =
     if nat_lt (2 ^ 64 - 1) (highest_seqno es + g) then Err GlobalSeqNoTooLarge else Ok tt
+
+-- On bytes that store a list, a read of a table returned the newest visible version in the list,
+-- global seqno applied.
+abbrev pub FindsInList : {X : Type 0} → (X → Option Entry) → OpenTable → List ℕ → ℕ → Result X Error
+    → Type 0
+FindsInList view t key bound r =
+    (es : List Entry) → StoresList t.bytes es →
+    Gives view r (Ok (point (lift es t.global_seqno) key bound))

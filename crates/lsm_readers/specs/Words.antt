@@ -5,8 +5,7 @@ pub use Rattle.sst_entries.specs.Point.{point, within}
 pub use Rattle.sst_entries.specs.Stream.{CanYield, YieldsExactly, answer_stops, front_of, nowhere}
 pub use Rattle.sst_blocks.specs.Access.{IsInMemory, IsKnown, in_memory}
 pub use Rattle.sst_blocks.specs.filter.KeyHash.{hash_of}
-pub use Rattle.sst_blocks.specs.Sections.{body_of, section_names}
-unfoldable pub use Rattle.sst_blocks.specs.Sections.{section_in}
+pub use Rattle.sst_blocks.specs.Sections.{body_of}
 pub use Rattle.sst_blocks.specs.Block.{Loaded, entries_of, load_at_result, load_result, place_fault}
 pub use Rattle.sst_blocks.specs.Block.{position_fault}
 pub use Rattle.sst_blocks.specs.Handle.{Handle}
@@ -18,20 +17,20 @@ pub use Rattle.sst_blocks.specs.table.Table.{IsTable}
 pub use Rattle.lsm_iters.specs.block_index.Kinds.{IsSought, index_of as index_read, left_of}
 pub use Rattle.lsm_readers.specs.BlockIndexes.{AreCutAlike, NamesBlocksOf, ReadAlike}
 pub use Rattle.lsm_readers.specs.BlockIndexes.{StoresItsBlocks, table_index}
-pub use Rattle.lsm_readers.specs.point.Answer.{LoadsFew, admission, admitted_handle, answer}
+pub use Rattle.lsm_readers.specs.point.Answer.{LoadsFew, admission, admitted_handle}
 pub use Rattle.lsm_readers.specs.point.Answer.{block_admits, filter_admits, lift, lifted, match_at}
-pub use Rattle.lsm_readers.specs.point.Answer.{parts_admit, table_answer}
+pub use Rattle.lsm_readers.specs.point.Answer.{answer_by, parts_admit, table_answer}
 pub use Rattle.lsm_readers.specs.point.IndexKinds.{handle_by, handle_in_block, handles_result}
 pub use Rattle.lsm_readers.specs.point.IndexKinds.{index_kind_of, index_len, index_over}
 pub use Rattle.lsm_readers.specs.point.IndexKinds.{index_result, kind_for, kind_kept, on_each_read}
 pub use Rattle.lsm_readers.specs.point.IndexKinds.{partitioned, pinned_index_of, volatile}
 pub use Rattle.lsm_readers.specs.OfList.{SaysList, ends_of, list_result}
-pub use Rattle.lsm_readers.specs.point.Parts.{Parts, early_fault, early_in, facts_fitting}
+pub use Rattle.lsm_readers.specs.point.Parts.{OnBytes, Parts, early_fault, early_in, facts_fitting}
 pub use Rattle.lsm_readers.specs.point.Parts.{filter_len, filter_result, fitting_result}
 pub use Rattle.lsm_readers.specs.point.Parts.{parts_result, pinned_filter, pinned_result}
 pub use Rattle.lsm_readers.specs.point.Parts.{place_size, places_result, recovered_result}
 pub use Rattle.lsm_readers.specs.point.Parts.{tops_result}
-pub use Rattle.lsm_readers.specs.point.Read.{DoesRead, Opens}
+pub use Rattle.lsm_readers.specs.point.Read.{DoesRead, Opens, ReadsFrom}
 pub use Rattle.lsm_readers.specs.Scan.{EndsAtErrors, IsNewScan, LendsList, OpensNextBlock, Scan, ScanYields}
 pub use Rattle.lsm_readers.specs.Scan.{ScansLent, ScansList, ScansNext, table_scan}
 pub use Rattle.lsm_readers.specs.Scan.{block_result, ended, fault_of, lend_next, lifted_result}
@@ -39,7 +38,7 @@ pub use Rattle.lsm_readers.specs.Scan.{scan_results, scan_size}
 pub use Rattle.lsm_readers.specs.point.Meta.{facts_of, first_byte_result, meta_item_result}
 pub use Rattle.lsm_readers.specs.point.Meta.{meta_result, number16_result, number8_result}
 pub use Rattle.lsm_readers.specs.point.Meta.{one_byte_result, version_number_result}
-pub use Rattle.lsm_readers.specs.Stored.{Matches, StoresList, fits_result}
+pub use Rattle.lsm_readers.specs.Stored.{FindsInList, Matches, StoresList, fits_result}
 pub use Rattle.lsm_readers.specs.point.Table.{IsOpen, IsRecovered, OpenTable, OpenedWith, parts_of}
 pub use Rattle.lsm_readers.specs.point.Table.{table_of}
 pub use Rattle.lsm_readers.specs.point.Table.{pinned_of}

@@ -151,9 +151,8 @@ fn read_lookup<F: Finder<A>, A: Allocator + Clone>(
     requires handle { let low = query.now.seqno - inner.now.global_seqno in
         (spec.admitted_handle (spec.body_of blocks.now) (spec.parts_of inner.now) query.now.key
         low).returned ≡ Ok handle }
-    ensures returned { let parts = spec.parts_of inner.now in
-        spec.Gives (spec.option_map (F.entry blocks.now)) result
-        (spec.query_result (spec.body_of blocks.now) inner.now.global_seqno parts query.now) }
+    ensures returned { spec.Gives (spec.option_map (F.entry blocks.now)) result
+        (spec.query_in blocks.now inner.now query.now) }
     ensures within { IfOk result (λ found. IfSome found (F.is_within blocks.now)) }
     ensures over { F.is_over finder.new blocks.now }
 {
@@ -173,9 +172,8 @@ fn read_one<F: Finder<A>, A: Allocator + Clone>(
     query: &Query<A>,
 ) -> Result<Option<F::Found>, Error>
     requires over { F.is_over finder.old blocks.now }
-    ensures returned { let parts = spec.parts_of inner.now in
-        spec.Gives (spec.option_map (F.entry blocks.now)) result
-        (spec.query_result (spec.body_of blocks.now) inner.now.global_seqno parts query.now) }
+    ensures returned { spec.Gives (spec.option_map (F.entry blocks.now)) result
+        (spec.query_in blocks.now inner.now query.now) }
     ensures within { IfOk result (λ found. IfSome found (F.is_within blocks.now)) }
     ensures over { F.is_over finder.new blocks.now }
 {

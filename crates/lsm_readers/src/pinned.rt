@@ -83,8 +83,7 @@ fn handle_at<S: LoadBlocks>(
     seqno: SeqNo,
 ) -> Result<Option<BlockHandle>, Error>
     ensures read { let read = spec.handle_in_block (S.body source.old) key.now seqno handle.now in
-        spec.IsKnown S.access →
-        spec.DoesRead S.access result read (S.opened source.old) (S.opened source.new) }
+        spec.ReadsFrom S.access result read (S.opened source.old) (S.opened source.new) }
     ensures body { S.body source.new ≡ S.body source.old }
 {
     source.find(handle, key, seqno)
@@ -201,10 +200,9 @@ pub(crate) fn handle_by<S: LoadBlocks>(
     key: &[u8],
     seqno: SeqNo,
 ) -> Result<Option<BlockHandle>, Error>
-    ensures read { let kept = spec.pinned_index_of index.now in
-        let read = spec.handle_by (S.body source.old) kept tli.now key.now seqno in
-        spec.IsKnown S.access →
-        spec.DoesRead S.access result read (S.opened source.old) (S.opened source.new) }
+    ensures read { let read = spec.handle_by (S.body source.old) (spec.pinned_index_of index.now)
+        tli.now key.now seqno in
+        spec.ReadsFrom S.access result read (S.opened source.old) (S.opened source.new) }
     ensures body { S.body source.new ≡ S.body source.old }
 {
     match index {

@@ -26,8 +26,7 @@ fn block_admits<S: LoadBlocks>(
     key_hash: u64,
 ) -> Result<bool, Error>
     ensures read { let read = spec.block_admits (S.body source.old) key_hash handle.now in
-        spec.IsKnown S.access →
-        spec.DoesRead S.access result read (S.opened source.old) (S.opened source.new) }
+        spec.ReadsFrom S.access result read (S.opened source.old) (S.opened source.new) }
     ensures body { S.body source.new ≡ S.body source.old }
 {
     source.maybe_contains_hash(handle, key_hash)
@@ -41,8 +40,8 @@ fn filter_admits<S: LoadBlocks>(
     key_hash: u64,
 ) -> Result<bool, Error>
     ensures read { let read = spec.parts_admit (S.body source.old) (spec.parts_of inner.now) key.now
-        key_hash in spec.IsKnown S.access →
-        spec.DoesRead S.access result read (S.opened source.old) (S.opened source.new) }
+        key_hash in
+        spec.ReadsFrom S.access result read (S.opened source.old) (S.opened source.new) }
     ensures body { S.body source.new ≡ S.body source.old }
 {
     if let Some(tops) = &inner.pinned_filter_index {
@@ -70,10 +69,9 @@ fn admission<S: LoadBlocks>(
     key_hash: u64,
 ) -> Result<bool, Error>
     requires { key_hash ≡ spec.hash_of key.now }
-    ensures read { let parts = spec.parts_of inner.now in
-        let read = spec.admission (S.body source.old) parts key.now seqno in
-        spec.IsKnown S.access →
-        spec.DoesRead S.access result read (S.opened source.old) (S.opened source.new) }
+    ensures read { let read = spec.admission (S.body source.old) (spec.parts_of inner.now) key.now
+        seqno in
+        spec.ReadsFrom S.access result read (S.opened source.old) (S.opened source.new) }
     ensures body { S.body source.new ≡ S.body source.old }
 {
     if seqno <= inner.metadata.seqnos.0 {
@@ -91,10 +89,9 @@ pub(crate) fn admitted_handle<S: LoadBlocks>(
     key_hash: u64,
 ) -> Result<Option<BlockHandle>, Error>
     requires { key_hash ≡ spec.hash_of key.now }
-    ensures read { let parts = spec.parts_of inner.now in
-        let read = spec.admitted_handle (S.body source.old) parts key.now seqno in
-        spec.IsKnown S.access →
-        spec.DoesRead S.access result read (S.opened source.old) (S.opened source.new) }
+    ensures read { let read = spec.admitted_handle (S.body source.old) (spec.parts_of inner.now)
+        key.now seqno in
+        spec.ReadsFrom S.access result read (S.opened source.old) (S.opened source.new) }
     ensures body { S.body source.new ≡ S.body source.old }
 {
     if admission(source, inner, key, seqno, key_hash)? {
@@ -129,8 +126,7 @@ pub(crate) fn read_in<S: LoadBlocks>(
 ) -> Result<Option<InternalValue<S::Alloc>>, Error>
     requires { seqno + global_seqno < 2 ^ 64 }
     ensures read { let read = spec.match_at (S.body source.old) global_seqno key.now seqno handle in
-        spec.IsKnown S.access →
-        spec.DoesRead S.access result read (S.opened source.old) (S.opened source.new) }
+        spec.ReadsFrom S.access result read (S.opened source.old) (S.opened source.new) }
     ensures body { S.body source.new ≡ S.body source.old }
 {
     let found = source.point_read(&handle, key, seqno)?;
@@ -156,23 +152,19 @@ pub fn point_in<S: LoadBlocks>(
     key_hash: u64,
 ) -> Result<Option<InternalValue<S::Alloc>>, Error>
     requires { key_hash ≡ spec.hash_of key.now }
-    ensures returned { let parts = spec.parts_of inner.now in
-        let read = spec.answer (S.body source.old) inner.now.global_seqno parts key.now seqno in
+    ensures returned { let read = spec.answer_by (S.body source.old) inner.now key.now seqno in
         spec.IsKnown S.access →
         spec.Gives (λ (found : Option spec.Entry). found) result read.returned }
     // If the bytes are in memory, a fault that is found before any allocation takes precedence over
     // `OutOfMemory`.
-    ensures early { let parts = spec.parts_of inner.now in
-        let read = spec.answer (S.body source.old) inner.now.global_seqno parts key.now seqno in
+    ensures early { let read = spec.answer_by (S.body source.old) inner.now key.now seqno in
         spec.IsInMemory S.access → spec.FaultsFirst result read.early }
     // Without a load it does not fail: memory is allocated only for a block.
-    ensures calm { let parts = spec.parts_of inner.now in
-        let read = spec.answer (S.body source.old) inner.now.global_seqno parts key.now seqno in
+    ensures calm { let read = spec.answer_by (S.body source.old) inner.now key.now seqno in
         spec.IsKnown S.access → read.loads ≡ [] → IsOk result }
     ensures body { S.body source.new ≡ S.body source.old }
     // It makes the loads of the read, and no others.
-    ensures opened { let parts = spec.parts_of inner.now in
-        let read = spec.answer (S.body source.old) inner.now.global_seqno parts key.now seqno in
+    ensures opened { let read = spec.answer_by (S.body source.old) inner.now key.now seqno in
         spec.IsKnown S.access →
         spec.Opens result read.loads (S.opened source.old) (S.opened source.new) }
     // These are few, also if an allocation fails.

@@ -1,5 +1,5 @@
 //! Reading the state of a table from any source of its blocks.
-ghost use Rattle.std.specs.Prelude.{◌≡◌, ℕ, List, Option, IfErr, IfOk, map};
+ghost use Rattle.std.specs.Prelude.{◌≡◌, IfErr, IfOk, List, Option};
 ghost use Rattle.lsm_readers.specs.Words as spec;
 
 use crate::meta::load_meta;
@@ -132,15 +132,12 @@ pub fn recover_in<S: LoadBlocks>(
     pin_index: bool,
 ) -> Result<Inner<S::Alloc>, Error>
     // For the bytes whose trailer has these sections, it returns their parts.
-    ensures returned { spec.IsKnown S.access → (bytes : List ℕ) →
-        toc.now ≡ map (spec.section_in bytes) spec.section_names →
-        S.body source.old ≡ spec.body_of bytes →
+    ensures returned { spec.IsKnown S.access → spec.OnBytes toc.now (S.body source.old) (λ bytes.
         spec.Gives spec.parts_of result
-        (spec.parts_result bytes global_seqno pin_filter pin_index) }
-    ensures early { spec.IsInMemory S.access → (bytes : List ℕ) →
-        toc.now ≡ map (spec.section_in bytes) spec.section_names →
-        S.body source.old ≡ spec.body_of bytes →
-        spec.FaultsFirst result (spec.early_in (spec.body_of bytes) (spec.places_result bytes)) }
+        (spec.parts_result bytes global_seqno pin_filter pin_index)) }
+    ensures early { spec.IsInMemory S.access → spec.OnBytes toc.now (S.body source.old) (λ bytes.
+        spec.FaultsFirst result
+        (spec.early_in (spec.body_of bytes) (spec.places_result bytes))) }
     ensures number { IfOk result (λ inner. inner.global_seqno ≡ global_seqno) }
     ensures tree { IfOk result (λ inner. inner.tree_id ≡ tree_id) }
     ensures checksum { IfOk result (λ inner. inner.checksum ≡ checksum) }

@@ -276,9 +276,8 @@ impl<A: Allocator + Clone> Table<A> {
         ensures open { spec.IsOpen self.now }
         // On bytes that store a list it is the newest visible version in the list, global seqno
         // applied.
-        ensures list { (es : List spec.Entry) → spec.StoresList self.now.bytes es →
-            let found = spec.point (spec.lift es self.now.global_seqno) key.now seqno in
-            spec.Gives (λ (x : Option spec.Entry). x) result.0 (Ok found) }
+        ensures list { spec.FindsInList (λ (x : Option spec.Entry). x) self.now key.now seqno
+            result.0 }
     {
         let inner: &Inner<A> = &self.inner;
         let mut source = Counted::new(&self.source);
@@ -319,9 +318,8 @@ impl<A: Allocator + Clone> Table<A> {
         ensures recovered { spec.IsRecovered self.now }
         // On bytes that store a list it is the newest visible version in the list, global seqno
         // applied.
-        ensures list { (es : List spec.Entry) → spec.StoresList self.now.bytes es →
-            let found = spec.point (spec.lift es self.now.global_seqno) key.now seqno in
-            spec.Gives (λ (x : Option spec.Entry). x) result (Ok found) }
+        ensures list { spec.FindsInList (λ (x : Option spec.Entry). x) self.now key.now seqno
+            result }
     {
         self.get_counted(key, seqno, key_hash).0
     }

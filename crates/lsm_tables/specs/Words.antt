@@ -45,6 +45,7 @@ pub use Rattle.lsm_readers.specs.declared.verify.Finding.{Finding}
 pub use Rattle.lsm_readers.specs.Verification.{bytes_read, steps_of, verifying}
 pub use Rattle.lsm_runs.specs.RunLists.{AreRunsInOrder, RunsHold, TableLists, each_run}
 pub use Rattle.lsm_runs.specs.RunLists.{YieldWithin, YieldsList, HoldLists, HoldsList, RunsHoldLists}
+pub use Rattle.lsm_runs.specs.LentSources.{LendsFirst}
 pub use Rattle.lsm_runs.specs.RunLists.{CanLend, YieldTogether, single}
 pub use Rattle.lsm_run_parts.specs.RunParts.{range_of}
 pub use Rattle.lsm_runs.specs.SeveralRuns.{runs_result, union_in}

@@ -13,8 +13,9 @@ use Rattle.sst_entries.specs.Point.{point}
 use Rattle.sst_blocks.specs.filter.Filter.{BloomFilter, admits, filter_in}
 pub use Rattle.lsm_iters.specs.Lift.{lifted, lift}
 use Rattle.lsm_readers.specs.point.IndexKinds.{handle_by, most_index_loads, place_in}
+use Rattle.lsm_readers.specs.declared.inner.Inner.{Inner}
 use Rattle.lsm_readers.specs.point.Parts.{Parts}
-use Rattle.lsm_readers.specs.point.Table.{OpenTable}
+use Rattle.lsm_readers.specs.point.Table.{OpenTable, parts_of}
 use Rattle.sst_blocks.specs.filter.KeyHash.{hash_of}
 use Rattle.sst_blocks.specs.Sections.{body_of}
 use Rattle.lsm_readers.specs.point.Read.{Read, known, block_read, read_map, read_then}
@@ -81,6 +82,10 @@ unfoldable pub answer : List ℕ → ℕ → Parts → List ℕ → ℕ → Read
 answer body g parts key bound =
     let low = bound - g in
     read_then (admitted_handle body parts key low) (match_in body g key low)
+
+-- The same with the state that an opened table keeps.
+abbrev pub answer_by : {A : Type 0} → List ℕ → Inner A → List ℕ → ℕ → Read (Option Entry)
+answer_by body inner key bound = answer body inner.global_seqno (parts_of inner) key bound
 
 -- A point read of an opened table.
 abbrev pub table_answer : OpenTable → List ℕ → ℕ → Read (Option Entry)

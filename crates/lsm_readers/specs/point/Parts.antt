@@ -1,5 +1,5 @@
 -- The result of opening a table: its facts, its regions, and its pinned blocks.
-use Rattle.std.specs.Prelude.{ℕ, ◌+◌, ◌-◌, ◌^◌, ◌&&◌, nat_lt, Bool, List, [], length, map, Option}
+use Rattle.std.specs.Prelude.{◌≡◌, ℕ, ◌+◌, ◌-◌, ◌^◌, ◌&&◌, nat_lt, Bool, List, [], length, map, Option}
 use Rattle.std.specs.Prelude.{Some, None, is_none, Result, Ok, Err, if◌then◌else◌}
 use Rattle.std.specs.Option.{option_or}
 use Rattle.sst_blocks.specs.declared.block_type.BlockType.TheVariants.{Filter, Meta}
@@ -10,6 +10,7 @@ use Rattle.sst_entries.specs.Error.{unless}
 use Rattle.sst_blocks.specs.Handle.{Handle}
 use Rattle.sst_blocks.specs.Place.{Place}
 use Rattle.sst_blocks.specs.filter.Filter.{BloomFilter, filter_in, payload_of}
+use Rattle.sst_blocks.specs.declared.section.Section.{Section}
 use Rattle.sst_blocks.specs.Sections.{body_of, section_in, section_names, trailer_fault}
 use Rattle.lsm_sorted.specs.version.KeyRange.{Interval, interval}
 use Rattle.lsm_readers.specs.declared.regions.ParsedRegions.{ParsedRegions}
@@ -66,6 +67,11 @@ fitting_result body place g = meta_result body place >>= λ facts. facts_fitting
 -- The table's regions, by the sections that the trailer names.
 abbrev pub places_result : List ℕ → Result ParsedRegions Error
 places_result bytes = regions_result (map (section_in bytes) section_names)
+
+-- This holds of any bytes whose trailer has these sections, and that have this body.
+abbrev pub OnBytes : List (Option Section) → List ℕ → (List ℕ → Type 0) → Type 0
+OnBytes toc body P =
+    (bytes : List ℕ) → toc ≡ map (section_in bytes) section_names → body ≡ body_of bytes → P bytes
 
 -- The regions, the meta block, the global seqno check and the pinned blocks, in this order.
 unfoldable pub parts_result : List ℕ → ℕ → Bool → Bool → Result Parts Error

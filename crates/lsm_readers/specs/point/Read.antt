@@ -6,7 +6,7 @@ use Rattle.sst_entries.specs.declared.error.Error.{Error}
 use Rattle.sst_entries.specs.Error.{FaultsFirst, Gives, is_memory}
 use Rattle.sst_blocks.specs.declared.block_type.BlockType.{BlockType}
 use Rattle.sst_blocks.specs.declared.opened.Opened.{Opened}
-use Rattle.sst_blocks.specs.Access.{Access, IsInMemory}
+use Rattle.sst_blocks.specs.Access.{Access, IsInMemory, IsKnown}
 use Rattle.sst_blocks.specs.Block.{Loaded, load_result, place_fault}
 use Rattle.sst_blocks.specs.Opened.{with_load}
 use Rattle.sst_blocks.specs.Place.{Place}
@@ -88,3 +88,7 @@ pub record DoesRead {X : Type 0} (access : Access) (r : Result X Error) (read : 
   pub early : IsInMemory access → FaultsFirst r read.early
   pub opens : Opens r read.loads old new
   pub calm : read.loads ≡ [] → IsOk r
+
+-- If the bytes are known, a call did a read.
+abbrev pub ReadsFrom : {X : Type 0} → Access → Result X Error → Read X → Opened → Opened → Type 0
+ReadsFrom access r read old new = IsKnown access → DoesRead access r read old new

@@ -37,9 +37,8 @@ impl<A: Allocator + Clone> Table<A> {
         ensures placed { IfOk result.0 (λ found. IfSome found (spec.IsPlacedIn self.now.bytes)) }
         // On bytes that store a list it is the newest visible version in the list, global seqno
         // applied.
-        ensures list { (es : List spec.Entry) → spec.StoresList self.now.bytes es → spec.Gives
-            (spec.option_map (spec.entry_placed self.now.bytes)) result.0 (Ok (spec.point (spec.lift
-            es self.now.global_seqno) key.now seqno)) }
+        ensures list { spec.FindsInList (spec.option_map (spec.entry_placed self.now.bytes))
+            self.now key.now seqno result.0 }
     {
         let inner: &Inner<A> = &self.inner;
         place_in(&self.source, inner, key, seqno, key_hash)
@@ -97,9 +96,8 @@ impl<A: Allocator + Clone> Table<A> {
         ensures open { spec.IsOpen self.now }
         // On bytes that store a list it is the newest visible version in the list, global seqno
         // applied.
-        ensures list { (es : List spec.Entry) → spec.StoresList self.now.bytes es → spec.Gives
-            (spec.option_map spec.entry_of_ref) result.0 (Ok (spec.point (spec.lift es
-            self.now.global_seqno) key.now seqno)) }
+        ensures list { spec.FindsInList (spec.option_map spec.entry_of_ref) self.now key.now seqno
+            result.0 }
     {
         let (found, opened) = self.get_place(key, seqno, key_hash);
         (self.found_at(found), opened)
