@@ -82,7 +82,7 @@ comes_by u (e ∷ es) some = first (lifted_result u.global_seqno e)
       needs = λ is. let wrong : Err (Table f) ≡ Ok true = is in absurd cc;
     }
 
-abbrev arrived : Bool → Result Bool FileError
+abbrev pub arrived : Bool → Result Bool FileError
 arrived b = Ok b
 
 all_loaded : (s u t : Scan) → Counted s u → t.opened ≡ u.opened → loads_of u ≡ 0

@@ -211,15 +211,15 @@ halted_by u s body o same kept counts = rw (kept, counts, same) refl
 -- ---- a new scan
 
 fault_same : (body : List ℕ) (position : ℕ) (r : Result Loaded Error)
-    → fault_of (r >>= λ b. Ok (entries_of b, behind position b)) ≡ fault_of r
+    → fault_of {X = List Entry × ℕ} (r >>= λ b. Ok (entries_of b, behind position b)) ≡ fault_of r
 fault_same body position (Ok b) = refl
 fault_same body position (Err e) = refl
 
-error_faults : {X Y Z : Type 0} (reads : Reads) (view : X → Z) (e : FileError)
+error_faults : {X Z : Type 0} (Y : Type 0) (reads : Reads) (view : X → Z) (e : FileError)
     (returned : Result Z Error) (fault : Option Error) → fault_of returned ≡ fault
     → FileGives reads view (Err e) returned → FileFaults {X = Y} reads (Err e) fault
-error_faults reads view (Io f) returned fault same fails = fails
-error_faults reads view (Table f) returned fault same fails = λ memory.
+error_faults Y reads view (Io f) returned fault same fails = fails
+error_faults Y reads view (Table f) returned fault same fails = λ memory.
     sym same ∙ ap fault_of (fails memory)
 
 -- its first block could not be read
@@ -229,7 +229,7 @@ pub scan_refused : {X Y : Type 0} (reads : Reads) (view : X → List Entry × �
     → FileFaults reads r (fault_of (load_at_result body 0 Data))
 scan_refused {Y = Y} reads view body r e is fails =
     let p = err_from_is_err_and r is in
-    rw (p.1, p.2) (error_faults {Y = Y} reads view e (block_result body 0)
+    rw (p.1, p.2) (error_faults Y reads view e (block_result body 0)
     (fault_of (load_at_result body 0 Data)) (fault_same body 0 (load_at_result body 0 Data)) fails)
 
 pub scan_opened : (body : List ℕ) (es : List Entry) (next : ℕ) → block_result body 0 ≡ Ok (es, next)

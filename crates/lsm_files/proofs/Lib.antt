@@ -7,3 +7,4 @@ pub mod Opened
 pub mod FileScans
 pub mod Aheads
 pub mod ManyStored
+pub mod FileCounts

@@ -20,7 +20,7 @@ pub use Rattle.lsm_readers.specs.point.Parts.{parts_result, recovered_result}
 pub use Rattle.lsm_readers.specs.point.Read.{Opens}
 pub use Rattle.lsm_readers.specs.point.Table.{IsRecovered, OpenTable, parts_of}
 pub use Rattle.lsm_readers.specs.Scan.{IsEndedScan, block_result, ended, fault_of}
-pub use Rattle.lsm_readers.specs.Scan.{lend_next, scan_left, scan_results}
+pub use Rattle.lsm_readers.specs.Scan.{lend_next, loads, loads_of, scan_left, scan_results}
 pub use Rattle.lsm_readers.specs.Stored.{StoresList}
 pub use Rattle.lsm_files.specs.Keeping.{IsLoaded, KeepsOf}
 pub use Rattle.lsm_files.specs.Reads.{IsKnown, IsPartAt, NeverFails, whole}

@@ -12,9 +12,8 @@ use std::os::unix::fs::FileExt;
 
 /// Bytes that are read at an offset, as those of a file.
 ///
-/// An implementor says how much a contract knows of its bytes. Of a file nothing is known, since
-/// anyone can change it. To a caller the bytes are fixed: a source that changes them is as if its
-/// reads failed.
+/// An implementor says what contracts know of its bytes. Bytes that may change are unknown. Those of
+/// a [`File`] are, since other programs can write to it.
 pub trait ReadAt {
     ghost use Rattle.std.specs.Prelude.{◌≡◌, ◌+◌, ◌<◌, List, ℕ, IfOk, IsOk, OnErr, OnOk, length};
     ghost use Rattle.lsm_files.specs.Reads.{IsKnown, IsPartAt, NeverFails, Reads};

@@ -124,6 +124,9 @@ impl<R: ReadAt, A: Allocator + Clone> FileScanner<'_, R, A> {
             (spec.next_of (spec.scan_left self.old)) }
         ensures left { spec.IsKnown R.reads →
             OnOk result (spec.scan_left self.new ≡ spec.rest_of (spec.scan_left self.old)) }
+        // It loads the blocks up to the next entry.
+        ensures counted { spec.IsKnown R.reads → OnOk result
+            (self.new.opened ≡ spec.loads (spec.loads_of self.old) self.old.opened) }
         ensures more { IfOk result (λ more. more ≡ is_some self.new.lent) }
         ensures ended { OnErr result (spec.IsEndedScan self.new) }
         ensures none { OnErr result (self.new.lent ≡ None) }

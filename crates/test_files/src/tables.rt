@@ -19,7 +19,7 @@ const ABSENT: &[(&[u8], SeqNo)] = &[
 // Whether each row is found right after its seqno, and no absent key.
 fn is_read<R: ReadAt + Drop>(table: &FileTable<R>) -> Result<bool, FileError> {
     for row in ROWS {
-        if !finds(table, row.0, row.1 + 1, Some(row))? {
+        if !finds(table, row.0, row.1.saturating_add(1), Some(row))? {
             return Ok(false);
         }
     }

@@ -7,6 +7,7 @@ use Rattle.lsm_readers.specs.Scan.{IsEndedScan, Scan, scan_left}
 use Rattle.lsm_files.specs.declared.error.FileError.{FileError}
 use Rattle.lsm_files.specs.Results.{FileGives}
 use Rattle.lsm_files.specs.Scan.{next_of, rest_of}
+use Rattle.lsm_files.proofs.FileCounts.{arrived, entry_counted, next_counted, none_counted, over_counted}
 use Rattle.lsm_files.proofs.FileScans.{entry_came, error_ends, no_block, no_entry, on_block, over, some_lent}
 use Rattle.lsm_files.proofs.scanner.FileScanner.advance.Goals as goal
 
@@ -19,7 +20,7 @@ returns-in_err-next_entry-clause-returned g c known =
     let f = c.in_err-next_entry.field-0.0 in
     let t = c.next_entry.new.self in
     let step = entry_came g.R.ReadAt.reads c.loop-self.self (Err f) t c.in_err-next_entry.ensures (λ h. let wrong : ◌≡◌ {A = Result Bool FileError} (Err f) (Ok false) = h in cc) in
-    rw (p.1, p.2) (subst (λ (rs : List (Result Entry Error)). FileGives {X = Bool} g.R.ReadAt.reads (λ _. t.lent) (Err f) (next_of rs)) (c.loop-self.invariant known) step.0)
+    rw (p.1, p.2) (subst (λ (rs : List (Result Entry Error)). FileGives {X = Bool} g.R.ReadAt.reads (λ _. t.lent) (Err f) (next_of rs)) (c.loop-self.invariant.left known) step.0)
 
 pub returns-in_err-next_entry-clause-ended : goal.returns-in_err-next_entry-clause-ended
 returns-in_err-next_entry-clause-ended g c =
@@ -37,13 +38,13 @@ pub returns-then-branch-clause-returned : goal.returns-then-branch-clause-return
 returns-then-branch-clause-returned g c known =
     let more = c.in_ok-next_entry.field-0 in
     let step = entry_came g.R.ReadAt.reads c.loop-self.self (Ok more) c.next_entry.new.self c.in_ok-next_entry.ensures (more_or more c.if-branch.true (Ok more) refl) in
-    ap next_of (sym (c.loop-self.invariant known)) ∙ step.0
+    ap next_of (sym (c.loop-self.invariant.left known)) ∙ step.0
 
 pub returns-then-branch-clause-left : goal.returns-then-branch-clause-left
 returns-then-branch-clause-left g c known =
     let more = c.in_ok-next_entry.field-0 in
     let step = entry_came g.R.ReadAt.reads c.loop-self.self (Ok more) c.next_entry.new.self c.in_ok-next_entry.ensures (more_or more c.if-branch.true (Ok more) refl) in
-    step.1 ∙ ap rest_of (c.loop-self.invariant known)
+    step.1 ∙ ap rest_of (c.loop-self.invariant.left known)
 
 pub returns-then-branch-clause-more : goal.returns-then-branch-clause-more
 returns-then-branch-clause-more g c = some_lent c.loop-self.self c.next_entry.new.self c.in_ok-next_entry.field-0 c.in_ok-next_entry.ensures c.if-branch.true
@@ -52,32 +53,40 @@ pub returns-then-not-has_block-clause-returned : goal.returns-then-not-has_block
 returns-then-not-has_block-clause-returned g c known =
     let u = c.loop-self.self in
     let t = c.next_entry.new.self in
-    let end = no_entry u t (Ok c.in_ok-next_entry.field-0) c.in_ok-next_entry.ensures (ap (λ (b : Bool). Ok b) c.if-branch.false) in
-    let none = over c.args.self.now u t (c.loop-self.invariant known) end.0 end.1 (λ more. let no : true ≡ false = sym (c.has_block.ensures.1 more) ∙ c.if-not-has_block.true in cc) in
+    let end = no_entry u t (Ok c.in_ok-next_entry.field-0) c.in_ok-next_entry.ensures (ap arrived c.if-branch.false) in
+    let none = over c.args.self.now u t (c.loop-self.invariant.left known) end.0 end.1 (λ more. let never : true ≡ false = sym (c.has_block.ensures.1 more) ∙ c.if-not-has_block.true in cc) in
     ap next_of none ∙ ap (λ (v : Scan). Ok v.lent) (sym end.1)
 
 pub returns-then-not-has_block-clause-left : goal.returns-then-not-has_block-clause-left
 returns-then-not-has_block-clause-left g c known =
     let u = c.loop-self.self in
     let t = c.next_entry.new.self in
-    let end = no_entry u t (Ok c.in_ok-next_entry.field-0) c.in_ok-next_entry.ensures (ap (λ (b : Bool). Ok b) c.if-branch.false) in
-    let left = c.loop-self.invariant known in
-    let none = over c.args.self.now u t left end.0 end.1 (λ more. let no : true ≡ false = sym (c.has_block.ensures.1 more) ∙ c.if-not-has_block.true in cc) in
+    let end = no_entry u t (Ok c.in_ok-next_entry.field-0) c.in_ok-next_entry.ensures (ap arrived c.if-branch.false) in
+    let left = c.loop-self.invariant.left known in
+    let none = over c.args.self.now u t left end.0 end.1 (λ more. let never : true ≡ false = sym (c.has_block.ensures.1 more) ∙ c.if-not-has_block.true in cc) in
     ap (λ (v : Scan). scan_left v) end.1 ∙ left ∙ none ∙ ap rest_of (sym none)
 
 pub returns-then-not-has_block-clause-more : goal.returns-then-not-has_block-clause-more
 returns-then-not-has_block-clause-more g c =
-    let end = no_entry c.loop-self.self c.next_entry.new.self (Ok c.in_ok-next_entry.field-0) c.in_ok-next_entry.ensures (ap (λ (b : Bool). Ok b) c.if-branch.false) in
+    let end = no_entry c.loop-self.self c.next_entry.new.self (Ok c.in_ok-next_entry.field-0) c.in_ok-next_entry.ensures (ap arrived c.if-branch.false) in
     rw end.1 refl
 
+pub loop-self-init : goal.loop-self-init
+loop-self-init g c = record { left = λ known. refl; counted = λ known. none_counted c.args.self.now }
+
 pub loop-self-preserved : goal.loop-self-preserved
-loop-self-preserved g c known =
+loop-self-preserved g c =
     let u = c.loop-self.self in
     let t = c.next_entry.new.self in
     let v = c.next_block.new.self in
-    let end = no_entry u t (Ok c.in_ok-next_entry.field-0) c.in_ok-next_entry.ensures (ap (λ (b : Bool). Ok b) c.if-branch.false) in
-    on_block c.args.self.now u t v (c.loop-self.invariant known) end.0 end.1 (c.has_block.ensures.0 c.if-not-has_block.false)
-    (c.in_ok-next_block.ensures.returned known) (ap (λ (w : Scan). scan_left w) c.in_ok-next_block.ensures.ok)
+    let end = no_entry u t (Ok c.in_ok-next_entry.field-0) c.in_ok-next_entry.ensures (ap arrived c.if-branch.false) in
+    let some = c.has_block.ensures.0 c.if-not-has_block.false in
+    record {
+      left = λ known. on_block c.args.self.now u t v (c.loop-self.invariant.left known) end.0 end.1 some
+          (c.in_ok-next_block.ensures.returned known) (ap (λ (w : Scan). scan_left w) c.in_ok-next_block.ensures.ok);
+      counted = λ known. next_counted c.args.self.now u t v (c.loop-self.invariant.counted known) end.0 end.1 some
+          (c.in_ok-next_block.ensures.returned known) c.in_ok-next_block.ensures.ok;
+    }
 
 pub returns-in_err-next_block-clause-returned : goal.returns-in_err-next_block-clause-returned
 returns-in_err-next_block-clause-returned g c known =
@@ -85,6 +94,17 @@ returns-in_err-next_block-clause-returned g c known =
     let t = c.next_entry.new.self in
     let v = c.next_block.new.self in
     let p = err_from_is_err_and c.from_residual-in_err-next_block.result c.from_residual-in_err-next_block.ensures.1 in
-    let end = no_entry u t (Ok c.in_ok-next_entry.field-0) c.in_ok-next_entry.ensures (ap (λ (b : Bool). Ok b) c.if-branch.false) in
+    let end = no_entry u t (Ok c.in_ok-next_entry.field-0) c.in_ok-next_entry.ensures (ap arrived c.if-branch.false) in
     rw (p.1, p.2) (no_block {X = Unit {0}} {Y = Bool} g.R.ReadAt.reads (λ _. (v.entries, v.position)) (λ _. v.lent) c.args.self.now u t c.in_err-next_block.field-0.0
-    (c.loop-self.invariant known) end.0 end.1 (c.has_block.ensures.0 c.if-not-has_block.false) (c.in_err-next_block.ensures.returned known))
+    (c.loop-self.invariant.left known) end.0 end.1 (c.has_block.ensures.0 c.if-not-has_block.false) (c.in_err-next_block.ensures.returned known))
+
+pub returns-then-branch-clause-counted : goal.returns-then-branch-clause-counted
+returns-then-branch-clause-counted g c known =
+    entry_counted c.args.self.now c.loop-self.self c.next_entry.new.self c.in_ok-next_entry.field-0 (c.loop-self.invariant.counted known) c.in_ok-next_entry.ensures c.if-branch.true
+
+pub returns-then-not-has_block-clause-counted : goal.returns-then-not-has_block-clause-counted
+returns-then-not-has_block-clause-counted g c known =
+    let u = c.loop-self.self in
+    let t = c.next_entry.new.self in
+    let end = no_entry u t (Ok c.in_ok-next_entry.field-0) c.in_ok-next_entry.ensures (ap arrived c.if-branch.false) in
+    over_counted c.args.self.now u t (c.loop-self.invariant.counted known) end.0 end.1 (λ more. let never : true ≡ false = sym (c.has_block.ensures.1 more) ∙ c.if-not-has_block.true in cc)

@@ -10,23 +10,14 @@ use Rattle.lsm_readers.specs.Scan.{block_result, entries_from, fault_of, scan_re
 use Rattle.lsm_readers.specs.point.Table.{OpenTable}
 use Rattle.lsm_readers.proofs.Scans.{first_left, same_left}
 use Rattle.lsm_files.specs.Results.{FileFaults}
-use Rattle.lsm_files.proofs.FileScans.{scan_opened, scan_refused}
+use Rattle.lsm_files.proofs.FileScans.{scan_refused}
 use Rattle.lsm_files.proofs.table.FileTable.scan.Goals as goal
-
-pub new-blocks-requires : goal.new-blocks-requires
-new-blocks-requires g c known = (c.self.invariant known).0
 
 pub returns-in_err-block-clause-refused : goal.returns-in_err-block-clause-refused
 returns-in_err-block-clause-refused g c known =
     let bytes = c.new-blocks.result in
     subst (λ (b : List ℕ). FileFaults g.R.ReadAt.reads c.from_residual.result (fault_of (load_at_result (body_of b) 0 Data))) (c.new-blocks.ensures ∙ ap (λ (t : OpenTable). t.bytes) c.self.view_is)
     (scan_refused g.R.ReadAt.reads (λ (x : List Entry × ℕ). x) (body_of bytes) c.from_residual.result c.in_err-block.field-0.0 c.from_residual.ensures.1 (c.in_err-block.ensures.returned known))
-
-pub returns-clause-refused : goal.returns-clause-refused
-returns-clause-refused g c known =
-    let bytes = c.new-blocks.result in
-    ap (λ (b : List ℕ). fault_of (load_at_result (body_of b) 0 Data)) (sym (c.new-blocks.ensures ∙ ap (λ (t : OpenTable). t.bytes) c.self.view_is))
-    ∙ scan_opened (body_of bytes) c.in_ok-block.block c.in_ok-block.position (c.in_ok-block.ensures.returned known)
 
 pub returns-clause-left : goal.returns-clause-left
 returns-clause-left g c known =
