@@ -16,7 +16,6 @@ ghost use Rattle.std.specs.Prelude.{◌≡◌, ◌-◌, ◌^◌, [], IfErr, IfOk
 ghost use Rattle.std.specs.Prelude.{false, length, min, true};
 ghost use Rattle.example_calling.specs.Reads.{OnYielded};
 ghost use Rattle.example_calling.specs.Written.{SeesAlike};
-ghost use Rattle.lsm_runs.specs.RunLists.{OnLists};
 ghost use Rattle.lsm_tables.specs.Words as spec;
 ghost use Rattle.std.specs.Iterator.{IsFinite};
 ghost use Rattle.std.specs.Option.{option_map_or};
@@ -129,12 +128,12 @@ pub fn compact_below<A: Allocator + Clone>(
     target: u64,
 ) -> Result<(Option<Run<Table<A>, A>>, TableIds), Error>
     requires { spec.AreCompactable (spec.each_run runs.now) }
-    ensures seen { (lists : spec.TableLists) → spec.RunsHold runs.now lists →
-        IfOk result (λ r. SeesAlike watermark (spec.union_in lists) r.0) }
+    ensures seen { spec.OnLists runs.now (λ lists.
+        IfOk result (λ r. SeesAlike watermark (spec.union_in lists) r.0)) }
     ensures ids { IfOk result (λ r. r.1 ≡ spec.ids_behind ids target (option_map_or length r.0 0)) }
-    ensures refused { OnLists runs.now (λ lists. IfErr result (λ e. spec.is_memory e ≡ false →
-        spec.tables_fault ids target 0 (spec.kept_in (spec.rules_by watermark true false) lists)
-        ≡ Some e)) }
+    ensures refused { spec.OnLists runs.now (λ lists.
+        IfErr result (λ e. spec.is_memory e ≡ false → spec.tables_fault ids target 0
+        (spec.kept_in (spec.rules_by watermark true false) lists) ≡ Some e)) }
 {
     let rules = Rules {
         watermark,
@@ -156,11 +155,10 @@ pub fn count_below<A: Allocator + Clone>(
     runs: &[Arc<Run<Table<A>, A>, A>],
     seqno: SeqNo,
 ) -> Result<u64, Error>
-    ensures exact { OnLists runs.now (λ lists.
+    ensures exact { spec.OnLists runs.now (λ lists.
         let found = spec.newest (spec.numbered_below seqno (spec.union_in lists)) in
         IfOk result (λ count. count ≡ min (length found) (2 ^ 64 - 1))) }
-    ensures memory { (lists : spec.TableLists) → spec.RunsHold runs.now lists →
-        IfErr result (λ e. e ≡ spec.OutOfMemory) }
+    ensures memory { spec.OnLists runs.now (λ lists. IfErr result (λ e. e ≡ spec.OutOfMemory)) }
 {
     let all = (Bound::Unbounded, Bound::Unbounded);
     count_newest(range_runs_at(alloc, runs, all, seqno)?)

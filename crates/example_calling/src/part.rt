@@ -2,7 +2,7 @@
 ghost use Rattle.std.specs.Prelude.{◌≡◌, ◌∷◌, ◌++◌, [], IfErr, IfOk, MatchOption, OnOk, map};
 ghost use Rattle.example_calling.specs.Reads.{OnSides, ReadsAfter, ReadsAlike, ReadsBefore};
 ghost use Rattle.example_calling.specs.Reads.{ReadsSides, ReadsSidesKept};
-ghost use Rattle.lsm_runs.specs.RunLists.{OnLists};
+ghost use Rattle.lsm_tables.specs.Words.{OnLists};
 ghost use Rattle.lsm_tables.specs.Words as spec;
 ghost use Rattle.std.specs.Arc.{arc_value};
 

@@ -43,7 +43,7 @@ pub use Rattle.lsm_readers.specs.point.Parts.{recovered_result}
 pub use Rattle.sst_blocks.specs.Sections.{body_of}
 pub use Rattle.lsm_readers.specs.declared.verify.Finding.{Finding}
 pub use Rattle.lsm_readers.specs.Verification.{bytes_read, steps_of, verifying}
-pub use Rattle.lsm_runs.specs.RunLists.{AreRunsInOrder, RunsHold, TableLists, each_run}
+pub use Rattle.lsm_runs.specs.RunLists.{AreRunsInOrder, OnLists, RunsHold, TableLists, each_run}
 pub use Rattle.lsm_runs.specs.RunLists.{YieldWithin, YieldsList, HoldLists, HoldsList, RunsHoldLists}
 pub use Rattle.lsm_runs.specs.LentSources.{LendsFirst}
 pub use Rattle.lsm_runs.specs.RunLists.{CanLend, YieldTogether, single}

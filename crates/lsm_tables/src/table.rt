@@ -4,6 +4,7 @@
 //! or `Bound<&[u8]>` mean `std::ops::Bound`.
 
 pub use crate::written::write_and_open;
+pub use lsm_files::{FileBlocks, FileError, FileScanner, FileTable, ReadAt};
 pub use lsm_iters::{
     BlockIndex, BlockIndexImpl, BlockIndexIter, BlockIndexIterImpl, Bound, FullBlockIndex, Iter,
     OwnedDataBlockIter, OwnedIndexBlockIter, TwoLevelBlockIndex, VolatileBlockIndex,
