@@ -52,13 +52,13 @@ abbrev pub naming_folder : List ℕ → List ℕ → List Step
 naming_folder from to = SyncedNames from ∷ RenamedFolder from to ∷ []
 
 -- The files are written under the folder's temporary name, and the folder is synced and renamed.
-abbrev pub filling : List ℕ → List ℕ → List (List ℕ) → List Step
-filling beside folder all =
+abbrev pub filling_all : List ℕ → List ℕ → List (List ℕ) → List Step
+filling_all beside folder all =
     writing_files (numbered_within beside all) ++ naming_folder beside folder
 
 -- The folder is made under its temporary name, filled, synced and renamed.
 abbrev pub placing_folder : List ℕ → List ℕ → List (List ℕ) → List Step
-placing_folder beside folder all = MadeFolder beside ∷ filling beside folder all
+placing_folder beside folder all = MadeFolder beside ∷ filling_all beside folder all
 
 -- The folder is made under its temporary name, filled in part, perhaps synced, and removed again.
 abbrev pub giving_up : List ℕ → List (List ℕ) → List Step → List Step
@@ -197,4 +197,4 @@ abbrev pub IsNotFilled : List ℕ → List ℕ → List (List ℕ) → Option (L
 IsNotFilled folder beside all known e new =
     IsEmptied folder beside all known e new
     ⊎ ((path_text e.name ≡ folder) × IsNotSynced e.fault
-    × (new ≡ then_done known (filling beside folder all)))
+    × (new ≡ then_done known (filling_all beside folder all)))

@@ -17,7 +17,7 @@ pub use Rattle.sst_tool.specs.files.NewFolders.{IsFolderNotPlaced}
 pub use Rattle.sst_tool.specs.files.NewFolders.{IsMakingFault, IsNamingFault, IsNotFilled, IsStemOf}
 pub use Rattle.sst_tool.specs.files.NewFolders.{IsWritingFault, LiesWithin, MaySyncNames, StopsWithin}
 pub use Rattle.sst_tool.specs.files.NewFolders.{TellsNameTaken, TellsStemTaken, TellsTaken, ThenClears}
-pub use Rattle.sst_tool.specs.files.NewFolders.{filling, naming_folder, numbered_within, path_within}
+pub use Rattle.sst_tool.specs.files.NewFolders.{filling_all, naming_folder, numbered_within, path_within}
 pub use Rattle.sst_tool.specs.files.NewFolders.{table_bytes}
 pub use Rattle.sst_tool.specs.files.Numbered.{named_bytes, numbered_files, numbered_path, with_number}
 pub use Rattle.sst_tool.specs.files.Opened.{AreOpenedFrom, HasContent, IsToldByBytes, StopsOpening}

@@ -113,7 +113,7 @@ fn fill_all<'a, P: Place, A: Allocator + Copy>(
 ) -> Result<(), FileError<'a>>
     requires { spec.IsBesideFolder folder.now beside.now }
     ensures filled { OnOk result (spec.ThenClears folder.now (P.done place.old)
-        (spec.filling beside.now folder.now (spec.table_bytes tables.now)
+        (spec.filling_all beside.now folder.now (spec.table_bytes tables.now)
         ++ spec.Synced folder.now ∷ []) (P.done place.new)) }
     ensures refused { IfErr result (λ e. spec.IsNotFilled folder.now beside.now
         (spec.table_bytes tables.now) (P.done place.old) e (P.done place.new)) }
@@ -145,7 +145,7 @@ fn fill_beside<'a, P: Place, A: Allocator + Copy>(
 ) -> Result<(), FileError<'a>>
     requires { spec.IsBesideFolder folder.now beside.now }
     ensures filled { OnOk result (P.done place.new ≡ spec.then_done (P.done place.old)
-        (spec.filling beside.now folder.now (spec.table_bytes tables.now)
+        (spec.filling_all beside.now folder.now (spec.table_bytes tables.now)
         ++ spec.Synced folder.now ∷ [])) }
     ensures refused { IfErr result (λ e. spec.IsNotFilled folder.now beside.now
         (spec.table_bytes tables.now) (P.done place.old) e (P.done place.new)) }
@@ -176,7 +176,7 @@ fn fill_and_name<'a, P: Place, A: Allocator + Copy>(
     requires empty { written.old.items ≡ [] }
     requires beside { spec.IsBesideFolder folder.now beside.now }
     ensures named { OnOk result (P.done place.new ≡ spec.then_done (P.done place.old)
-        (spec.filling beside.now folder.now (spec.table_bytes tables.now))) }
+        (spec.filling_all beside.now folder.now (spec.table_bytes tables.now))) }
     ensures refused { IfErr result (λ e. spec.StopsWithin folder.now beside.now
         (spec.table_bytes tables.now) (map string_bytes written.new.items)
         (P.done place.old) e (P.done place.new)) }
