@@ -38,11 +38,9 @@ pub fn read_run_back<A: Allocator + Clone>(
     // If the list has no entry, there is no result.
     ensures none { IfOk result (λ r. IfSome r (λ _. items.items ≡ [] → ⊥)) }
     // Both ends of the range may be called any number of times.
-    ensures can { IfOk result (λ r. IfSome r (λ read.
-        CanYield ⟦<NewestOfRuns<A> as Iterator>⟧.next_gives
-        ⟦<NewestOfRuns<A> as DoubleEndedIterator>⟧.next_back_gives
-        ⟦<NewestOfRuns<A> as Iterator>⟧.can_next
-        ⟦<NewestOfRuns<A> as DoubleEndedIterator>⟧.can_next_back read.1)) }
+    ensures can { let ends = ⟦<NewestOfRuns<A> as DoubleEndedIterator>⟧ in
+        IfOk result (λ r. IfSome r (λ read. CanYield ends.next_gives ends.next_back_gives
+        ends.can_next ends.can_next_back read.1)) }
     // Except for `OutOfMemory`, the error is that of writing and opening the list: reading does not
     // fail.
     ensures refused { Faults result

@@ -94,19 +94,16 @@ pub fn compact_run_back<A: Allocator + Clone>(
     requires { IsWritable items.items }
     // They are the first match of the key in what is kept and, from both ends, the newest version
     // of each key within the bounds.
-    ensures list { let left = kept rules (unfiltered items.items) in
-        ReadsSome ⟦<NewestOfRuns<A> as Iterator>⟧.next_gives
-        ⟦<NewestOfRuns<A> as DoubleEndedIterator>⟧.next_back_gives key.now seqno range
-        left left result }
+    ensures list { let ends = ⟦<NewestOfRuns<A> as DoubleEndedIterator>⟧ in
+        let left = kept rules (unfiltered items.items) in ReadsSome ends.next_gives
+        ends.next_back_gives key.now seqno range left left result }
     // If nothing is kept, there is no result.
     ensures none { let left = kept rules (unfiltered items.items) in
         IfOk result (λ r. IfSome r (λ _. left ≡ [] → ⊥)) }
     // Both ends of the range may be called any number of times.
-    ensures can { IfOk result (λ r. IfSome r (λ read.
-        CanYield ⟦<NewestOfRuns<A> as Iterator>⟧.next_gives
-        ⟦<NewestOfRuns<A> as DoubleEndedIterator>⟧.next_back_gives
-        ⟦<NewestOfRuns<A> as Iterator>⟧.can_next
-        ⟦<NewestOfRuns<A> as DoubleEndedIterator>⟧.can_next_back read.1)) }
+    ensures can { let ends = ⟦<NewestOfRuns<A> as DoubleEndedIterator>⟧ in
+        IfOk result (λ r. IfSome r (λ read. CanYield ends.next_gives ends.next_back_gives
+        ends.can_next ends.can_next_back read.1)) }
     // Except for `OutOfMemory`, the error is the first one: of writing the list, which is cut into
     // these tables, and then what is kept.
     ensures refused { let left = kept rules (unfiltered items.items) in

@@ -64,11 +64,9 @@ fn read_side_by_side<A: Allocator + Clone>(
     ensures list { ReadsSides ⟦<NewestOfRuns<A> as Iterator>⟧.next_gives
         ⟦<NewestOfRuns<A> as DoubleEndedIterator>⟧.next_back_gives key.now seqno range
         front.now part.now behind.now result }
-    ensures can { IfOk result (λ read.
-        spec.CanYield ⟦<NewestOfRuns<A> as Iterator>⟧.next_gives
-        ⟦<NewestOfRuns<A> as DoubleEndedIterator>⟧.next_back_gives
-        ⟦<NewestOfRuns<A> as Iterator>⟧.can_next
-        ⟦<NewestOfRuns<A> as DoubleEndedIterator>⟧.can_next_back read.1) }
+    ensures can { let ends = ⟦<NewestOfRuns<A> as DoubleEndedIterator>⟧ in
+        IfOk result (λ read. spec.CanYield ends.next_gives ends.next_back_gives ends.can_next
+        ends.can_next_back read.1) }
     ensures taken { OnSides front.now part.now behind.now (λ _ _ _.
         IfErr result (λ e. e ≡ spec.OutOfMemory)) }
 {
@@ -89,11 +87,9 @@ fn read_within<A: Allocator + Clone>(
     ensures list { ReadsSides ⟦<NewestOfRuns<A> as Iterator>⟧.next_gives
         ⟦<NewestOfRuns<A> as DoubleEndedIterator>⟧.next_back_gives key.now seqno
         range.now front.now part.now behind.now result }
-    ensures can { IfOk result (λ read.
-        spec.CanYield ⟦<NewestOfRuns<A> as Iterator>⟧.next_gives
-        ⟦<NewestOfRuns<A> as DoubleEndedIterator>⟧.next_back_gives
-        ⟦<NewestOfRuns<A> as Iterator>⟧.can_next
-        ⟦<NewestOfRuns<A> as DoubleEndedIterator>⟧.can_next_back read.1) }
+    ensures can { let ends = ⟦<NewestOfRuns<A> as DoubleEndedIterator>⟧ in
+        IfOk result (λ read. spec.CanYield ends.next_gives ends.next_back_gives ends.can_next
+        ends.can_next_back read.1) }
     ensures taken { OnSides front.now part.now behind.now (λ _ _ _.
         IfErr result (λ e. e ≡ spec.OutOfMemory)) }
 {
@@ -161,11 +157,9 @@ fn read_compacted<A: Allocator + Clone>(
     ensures list { ReadsSidesKept ⟦<NewestOfRuns<A> as Iterator>⟧.next_gives
         ⟦<NewestOfRuns<A> as DoubleEndedIterator>⟧.next_back_gives key.now seqno
         range rules front.now part.now behind.now result }
-    ensures can { IfOk result (λ read.
-        spec.CanYield ⟦<NewestOfRuns<A> as Iterator>⟧.next_gives
-        ⟦<NewestOfRuns<A> as DoubleEndedIterator>⟧.next_back_gives
-        ⟦<NewestOfRuns<A> as Iterator>⟧.can_next
-        ⟦<NewestOfRuns<A> as DoubleEndedIterator>⟧.can_next_back read.1) }
+    ensures can { let ends = ⟦<NewestOfRuns<A> as DoubleEndedIterator>⟧ in
+        IfOk result (λ read. spec.CanYield ends.next_gives ends.next_back_gives ends.can_next
+        ends.can_next_back read.1) }
     ensures refused { OnSides front.now part.now behind.now (λ _ ps _. spec.Faults result
         (spec.tables_fault ids target_size created_at (spec.kept_in rules ps))) }
     ensures taken { OnSides front.now part.now behind.now (λ _ ps _.
@@ -222,12 +216,9 @@ pub fn compact_part_back<A: Allocator + Clone>(
         ⟦<NewestOfRuns<A> as DoubleEndedIterator>⟧.next_back_gives key.now seqno
         range rules front.now part.now behind.now result }
     // Both ends of both ranges may be called any number of times.
-    ensures can { let can =
-        spec.CanYield ⟦<NewestOfRuns<A> as Iterator>⟧.next_gives
-        ⟦<NewestOfRuns<A> as DoubleEndedIterator>⟧.next_back_gives
-        ⟦<NewestOfRuns<A> as Iterator>⟧.can_next
-        ⟦<NewestOfRuns<A> as DoubleEndedIterator>⟧.can_next_back in
-        IfOk result (λ r. can r.0.1 × can r.1.1) }
+    ensures can { let ends = ⟦<NewestOfRuns<A> as DoubleEndedIterator>⟧ in
+        let can = spec.CanYield ends.next_gives ends.next_back_gives ends.can_next
+        ends.can_next_back in IfOk result (λ r. can r.0.1 × can r.1.1) }
     // Except for `OutOfMemory`, the error is the first one of writing what is kept: reading does
     // not fail.
     ensures refused { OnSides front.now part.now behind.now (λ _ ps _. spec.Faults result

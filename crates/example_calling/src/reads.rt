@@ -26,10 +26,9 @@ pub(crate) fn read_runs<A: Allocator + Clone>(
     ensures list { ReadsUnion ⟦<NewestOfRuns<A> as Iterator>⟧.next_gives
         ⟦<NewestOfRuns<A> as DoubleEndedIterator>⟧.next_back_gives key.now seqno range
         runs.now result }
-    ensures can { IfOk result (λ read. spec.CanYield ⟦<NewestOfRuns<A> as Iterator>⟧.next_gives
-        ⟦<NewestOfRuns<A> as DoubleEndedIterator>⟧.next_back_gives
-        ⟦<NewestOfRuns<A> as Iterator>⟧.can_next
-        ⟦<NewestOfRuns<A> as DoubleEndedIterator>⟧.can_next_back read.1) }
+    ensures can { let ends = ⟦<NewestOfRuns<A> as DoubleEndedIterator>⟧ in
+        IfOk result (λ read. spec.CanYield ends.next_gives ends.next_back_gives ends.can_next
+        ends.can_next_back read.1) }
     ensures taken { (lists : spec.TableLists) → spec.RunsHold runs.now lists →
         IfErr result (λ e. e ≡ OutOfMemory) }
     // For any tables in runs in order, the point read returns the result of reading these. Except
@@ -69,10 +68,9 @@ pub fn read_run<A: Allocator + Clone>(
         ⟦<NewestOfRuns<A> as DoubleEndedIterator>⟧.next_back_gives key.now seqno range
         run result }
     // Both ends of the range may be called any number of times.
-    ensures can { IfOk result (λ read. spec.CanYield ⟦<NewestOfRuns<A> as Iterator>⟧.next_gives
-        ⟦<NewestOfRuns<A> as DoubleEndedIterator>⟧.next_back_gives
-        ⟦<NewestOfRuns<A> as Iterator>⟧.can_next
-        ⟦<NewestOfRuns<A> as DoubleEndedIterator>⟧.can_next_back read.1) }
+    ensures can { let ends = ⟦<NewestOfRuns<A> as DoubleEndedIterator>⟧ in
+        IfOk result (λ read. spec.CanYield ends.next_gives ends.next_back_gives ends.can_next
+        ends.can_next_back read.1) }
     ensures taken { (es : List spec.Entry) (g : ℕ) → spec.IsRunOfList es g run →
         IfErr result (λ e. e ≡ OutOfMemory) }
     // For any tables in a run in order, the point read returns the result of reading these. Except

@@ -125,11 +125,9 @@ impl<A: Allocator + Clone> Memtable<A> {
             bounds.now.1 self.now result }
         ensures strict { spec.IsStrict self.now }
         // Both ends may be called, and it ends.
-        ensures can { IfOk result (spec.CanYield
-            ⟦<IntoIter<IterItem<A>, A> as Iterator>⟧.next_gives
-            ⟦<IntoIter<IterItem<A>, A> as DoubleEndedIterator>⟧.next_back_gives
-            ⟦<IntoIter<IterItem<A>, A> as Iterator>⟧.can_next
-            ⟦<IntoIter<IterItem<A>, A> as DoubleEndedIterator>⟧.can_next_back) }
+        ensures can { let ends = ⟦<IntoIter<IterItem<A>, A> as DoubleEndedIterator>⟧ in
+            IfOk result (spec.CanYield ends.next_gives ends.next_back_gives ends.can_next
+            ends.can_next_back) }
         ensures ends { IfOk result (λ s.
             spec.IsFinite (⟦<IntoIter<IterItem<A>, A> as Iterator>⟧.remaining s)) }
         ensures memory { IfErr result (λ e. e ≡ OutOfMemory) }

@@ -1,5 +1,5 @@
 -- Further lending sources beside the readers of runs.
-use Rattle.std.specs.Prelude.{◌≡◌, ◌++◌, ℕ, IfOk, List, map, Option, Result}
+use Rattle.std.specs.Prelude.{◌≡◌, ◌++◌, ◌<◌, ℕ, All, IfOk, List, map, Option, Result}
 use Rattle.std.specs.List.{AllZip}
 use Rattle.std.specs.declared.ops.Bound.{Bound}
 use Rattle.std.specs.declared.sync.Arc.{Arc}
@@ -41,6 +41,18 @@ SourcesYieldNewestBelow front back next next_back bound low high runs sources r 
     YieldWithin front back low high sources further →
     let all = union_in (map single further ++ lists) in
     IfOk r (YieldsList next next_back (newest (numbered_below bound (within low high all)))))
+
+-- if every seqno is below this one, it yields the newest versions of all
+abbrev pub SourcesYieldAllBelow : {S T Z : Type 0}
+    (front back : S → Option (Result Entry Error) → S → Type 0)
+    (next next_back : T → Option (Result Entry Error) → T → Type 0) → ℕ → Bound (List ℕ)
+    → Bound (List ℕ) → List (Arc (List OpenTable) Z) → List S → Result T Error → Type 0
+SourcesYieldAllBelow front back next next_back bound low high runs sources r =
+    OnLists runs (λ lists. (further : List (List Entry)) →
+    YieldWithin front back low high sources further →
+    let all = union_in (map single further ++ lists) in
+    All (λ (e : Entry). e.seqno < bound) all →
+    IfOk r (YieldsList next next_back (newest (within low high all))))
 
 -- sources that each lend any results, beside runs in order, where the entries of each source and run
 -- come in order up to its first error: a call returned a source that lends the newest of all these

@@ -48,7 +48,7 @@ pub use Rattle.lsm_sorted.specs.LentBelow.{LendsBelow, MayLendBelow, lent_below,
 pub use Rattle.lsm_sorted.specs.LentBelow.{only_below}
 pub use Rattle.lsm_runs.specs.LentNewestRuns.{LendsNewest, RunsLendNewest}
 pub use Rattle.lsm_runs.specs.LentSources.{LendsFirst, SourcesLendNewest}
-pub use Rattle.lsm_runs.specs.LentSources.{SourcesYieldNewestBelow}
+pub use Rattle.lsm_runs.specs.LentSources.{SourcesYieldAllBelow, SourcesYieldNewestBelow}
 pub use Rattle.either.specs.Either.{MatchEither, either}
 pub use Rattle.either.specs.Iterator.{either_steps}
 pub use Rattle.std.specs.Arc.{arc_value}

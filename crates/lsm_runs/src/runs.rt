@@ -102,12 +102,10 @@ pub(crate) fn newest_stream<I: DoubleEndedIterator<Item = IterItem<A>>, A: Alloc
     ensures past { IfOk result (spec.AnswersNewest I.next_gives I.next_back_gives sources.items
         ⟦<NewestOf<I, A> as Iterator>⟧.next_gives
         ⟦<NewestOf<I, A> as DoubleEndedIterator>⟧.next_back_gives) }
-    ensures can { IfOk result (spec.CanAskNewest I.next_gives I.next_back_gives I.can_next
-        I.can_next_back I.remaining sources.items
-        ⟦<NewestOf<I, A> as Iterator>⟧.next_gives
-        ⟦<NewestOf<I, A> as DoubleEndedIterator>⟧.next_back_gives
-        ⟦<NewestOf<I, A> as Iterator>⟧.can_next
-        ⟦<NewestOf<I, A> as DoubleEndedIterator>⟧.can_next_back) }
+    ensures can { let ends = ⟦<NewestOf<I, A> as DoubleEndedIterator>⟧ in
+        IfOk result (spec.CanAskNewest I.next_gives I.next_back_gives I.can_next I.can_next_back
+        I.remaining sources.items ends.next_gives ends.next_back_gives ends.can_next
+        ends.can_next_back) }
     ensures err { IfErr result (λ e. e ≡ spec.OutOfMemory) }
 {
     let stream = newest_of(alloc, sources)?;
@@ -139,11 +137,9 @@ pub fn range_runs<A: Allocator + Clone>(
     ensures steps { spec.StepsOverSpans ⟦<NewestOfRuns<A> as Iterator>⟧.next_gives
         ⟦<NewestOfRuns<A> as DoubleEndedIterator>⟧.next_back_gives range.0 range.1 runs.now result }
     // Both ends may be called any number of times, whatever the tables' bytes.
-    ensures can { IfOk result (λ s.
-        spec.CanYield ⟦<NewestOfRuns<A> as Iterator>⟧.next_gives
-        ⟦<NewestOfRuns<A> as DoubleEndedIterator>⟧.next_back_gives
-        ⟦<NewestOfRuns<A> as Iterator>⟧.can_next
-        ⟦<NewestOfRuns<A> as DoubleEndedIterator>⟧.can_next_back s) }
+    ensures can { let ends = ⟦<NewestOfRuns<A> as DoubleEndedIterator>⟧ in
+        IfOk result (λ s. spec.CanYield ends.next_gives ends.next_back_gives ends.can_next
+        ends.can_next_back s) }
     // So a `for` may iterate over it, from the front or from the back.
     ensures next { IfOk result (λ s. ⟦<NewestOfRuns<A> as Iterator>⟧.can_next s) }
     ensures next_back { IfOk result (λ s.
@@ -196,18 +192,15 @@ pub fn range_runs_at<A: Allocator + Clone>(
     // bounds, each below `seqno`. An error of a reader, `OutOfMemory` too, takes the place of all
     // entries that no step has taken yet. After it, only an entry already read at the other end is
     // yielded.
-    ensures steps { spec.AreRunsInOrder runs.now → IfOk result (spec.IsOverSpansBelow
-        ⟦<Below<RunReader<A>> as Iterator>⟧.next_gives
-        ⟦<Below<RunReader<A>> as DoubleEndedIterator>⟧.next_back_gives
-        ⟦<NewestOfRunsAt<A> as Iterator>⟧.next_gives
-        ⟦<NewestOfRunsAt<A> as DoubleEndedIterator>⟧.next_back_gives range.0 range.1 seqno
+    ensures steps { let below = ⟦<Below<RunReader<A>> as DoubleEndedIterator>⟧ in
+        let ends = ⟦<NewestOfRunsAt<A> as DoubleEndedIterator>⟧ in
+        spec.AreRunsInOrder runs.now → IfOk result (spec.IsOverSpansBelow below.next_gives
+        below.next_back_gives ends.next_gives ends.next_back_gives range.0 range.1 seqno
         (spec.each_run runs.now)) }
     // Both ends may be called any number of times, whatever the tables' bytes.
-    ensures can { IfOk result (λ s.
-        spec.CanYield ⟦<NewestOfRunsAt<A> as Iterator>⟧.next_gives
-        ⟦<NewestOfRunsAt<A> as DoubleEndedIterator>⟧.next_back_gives
-        ⟦<NewestOfRunsAt<A> as Iterator>⟧.can_next
-        ⟦<NewestOfRunsAt<A> as DoubleEndedIterator>⟧.can_next_back s) }
+    ensures can { let ends = ⟦<NewestOfRunsAt<A> as DoubleEndedIterator>⟧ in
+        IfOk result (λ s. spec.CanYield ends.next_gives ends.next_back_gives ends.can_next
+        ends.can_next_back s) }
     // So a `for` may iterate over it, from the front or from the back.
     ensures next { IfOk result (λ s. ⟦<NewestOfRunsAt<A> as Iterator>⟧.can_next s) }
     ensures next_back { IfOk result (λ s.

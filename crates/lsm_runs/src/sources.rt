@@ -1,5 +1,5 @@
 //! Reading several runs and further sources, such as a memtable, as one.
-ghost use Rattle.std.specs.Prelude.{◌≡◌, ◌++◌, ◌<◌, All, IfErr, IfOk, List, map};
+ghost use Rattle.std.specs.Prelude.{◌≡◌, All, IfErr, IfOk};
 ghost use Rattle.lsm_runs.specs.Words as spec;
 
 use crate::RunReader;
@@ -57,39 +57,29 @@ pub fn range_sources_at<S: DoubleEndedIterator<Item = IterItem<A>> + Drop, A: Al
     // For tables of lists in runs in order, and sources that each yield the part of a sorted list
     // within the bounds. For every list of ends, it yields the newest versions below `seqno` of all
     // these lists within the bounds.
-    ensures list { spec.SourcesYieldNewestBelow S.next_gives S.next_back_gives
-        ⟦<NewestOfSourcesAt<S, A> as Iterator>⟧.next_gives
-        ⟦<NewestOfSourcesAt<S, A> as DoubleEndedIterator>⟧.next_back_gives seqno range.0 range.1
-        runs.now sources.items result }
+    ensures list { let ends = ⟦<NewestOfSourcesAt<S, A> as DoubleEndedIterator>⟧ in
+        spec.SourcesYieldNewestBelow S.next_gives S.next_back_gives ends.next_gives
+        ends.next_back_gives seqno range.0 range.1 runs.now sources.items result }
     // If every seqno is below `seqno`, it yields the newest versions of all entries within the
     // bounds.
-    ensures whole { let gives = ⟦<NewestOfSourcesAt<S, A> as Iterator>⟧.next_gives in
-        let back_gives = ⟦<NewestOfSourcesAt<S, A> as DoubleEndedIterator>⟧.next_back_gives in
-        (lists : spec.TableLists) → spec.RunsHold runs.now lists →
-        (further : List (List spec.Entry)) →
-        spec.YieldWithin S.next_gives S.next_back_gives range.0 range.1 sources.items further →
-        let all = spec.union_in (map spec.single further ++ lists) in
-        All (λ e. e.seqno < seqno) all →
-        let found = spec.newest (spec.within range.0 range.1 all) in
-        IfOk result (λ s. spec.YieldsList gives back_gives found s) }
+    ensures whole { let ends = ⟦<NewestOfSourcesAt<S, A> as DoubleEndedIterator>⟧ in
+        spec.SourcesYieldAllBelow S.next_gives S.next_back_gives ends.next_gives
+        ends.next_back_gives seqno range.0 range.1 runs.now sources.items result }
     // For any tables in runs in order, it is a stream over the sources, whatever they yield. After
     // the sources come the readers of the spans within the bounds, each below `seqno`. An error of
     // one of them, `OutOfMemory` too, takes the place of all entries that no step has taken yet.
     // After it, only an entry already read at the other end is yielded.
-    ensures steps { spec.AreRunsInOrder runs.now → IfOk result (spec.IsOverSourcesBelow
-        ⟦<Below<Either<RunReader<A>, S>> as Iterator>⟧.next_gives
-        ⟦<Below<Either<RunReader<A>, S>> as DoubleEndedIterator>⟧.next_back_gives
-        ⟦<NewestOfSourcesAt<S, A> as Iterator>⟧.next_gives
-        ⟦<NewestOfSourcesAt<S, A> as DoubleEndedIterator>⟧.next_back_gives range.0 range.1 seqno
+    ensures steps { let below = ⟦<Below<Either<RunReader<A>, S>> as DoubleEndedIterator>⟧ in
+        let ends = ⟦<NewestOfSourcesAt<S, A> as DoubleEndedIterator>⟧ in
+        spec.AreRunsInOrder runs.now → IfOk result (spec.IsOverSourcesBelow below.next_gives
+        below.next_back_gives ends.next_gives ends.next_back_gives range.0 range.1 seqno
         (spec.each_run runs.now) sources.items) }
     // If the sources are finite and may be called at both ends, so may the stream, any number of
     // times. This holds for any bytes of the tables.
-    ensures can { All (spec.CanYield S.next_gives S.next_back_gives S.can_next S.can_next_back)
-        sources.items → All (λ s. spec.IsFinite (S.remaining s)) sources.items →
-        IfOk result (λ s. spec.CanYield ⟦<NewestOfSourcesAt<S, A> as Iterator>⟧.next_gives
-        ⟦<NewestOfSourcesAt<S, A> as DoubleEndedIterator>⟧.next_back_gives
-        ⟦<NewestOfSourcesAt<S, A> as Iterator>⟧.can_next
-        ⟦<NewestOfSourcesAt<S, A> as DoubleEndedIterator>⟧.can_next_back s) }
+    ensures can { let ends = ⟦<NewestOfSourcesAt<S, A> as DoubleEndedIterator>⟧ in
+        All (spec.CanYield S.next_gives S.next_back_gives S.can_next S.can_next_back) sources.items
+        → All (λ s. spec.IsFinite (S.remaining s)) sources.items → IfOk result (λ s. spec.CanYield
+        ends.next_gives ends.next_back_gives ends.can_next ends.can_next_back s) }
     // So a `for` may iterate over it, from the front or from the back.
     ensures next { spec.IfEachEnds S.next_gives S.next_back_gives S.can_next S.can_next_back
         S.remaining sources.items (IfOk result ⟦<NewestOfSourcesAt<S, A> as Iterator>⟧.can_next) }

@@ -24,12 +24,10 @@ fn newest_within(
     range: (Bound<Slice>, Bound<Slice>),
     seqno: SeqNo,
 ) -> Result<Asked, Error>
-    ensures ranges { IfOk result
-        (spec.RangesRuns ⟦<ReaderAt as Iterator>⟧.next_gives
-        ⟦<ReaderAt as DoubleEndedIterator>⟧.next_back_gives
-        ⟦<NewestAt as Iterator>⟧.next_gives
-        ⟦<NewestAt as DoubleEndedIterator>⟧.next_back_gives
-        range.0 range.1 seqno runs.now) }
+    ensures ranges { let below = ⟦<ReaderAt as DoubleEndedIterator>⟧ in
+        let ends = ⟦<NewestAt as DoubleEndedIterator>⟧ in
+        IfOk result (spec.RangesRuns below.next_gives below.next_back_gives ends.next_gives
+        ends.next_back_gives range.0 range.1 seqno runs.now) }
     ensures err { IfErr result (λ e. e ≡ spec.OutOfMemory) }
 {
     Ok(Asked::new(range_runs_at(alloc, runs.as_slice(), range, seqno)?))
@@ -47,13 +45,11 @@ fn merged_within(
 ) -> Result<Asked, Error>
     requires lower { lower_kind < 3 }
     requires upper { upper_kind < 3 }
-    ensures ranges { IfOk result
-        (spec.RangesRuns ⟦<ReaderAt as Iterator>⟧.next_gives
-        ⟦<ReaderAt as DoubleEndedIterator>⟧.next_back_gives
-        ⟦<NewestAt as Iterator>⟧.next_gives
-        ⟦<NewestAt as DoubleEndedIterator>⟧.next_back_gives
-        (spec.decode_bound lower_kind lower.now) (spec.decode_bound upper_kind upper.now) seqno
-        runs.now) }
+    ensures ranges { let below = ⟦<ReaderAt as DoubleEndedIterator>⟧ in
+        let ends = ⟦<NewestAt as DoubleEndedIterator>⟧ in
+        IfOk result (spec.RangesRuns below.next_gives below.next_back_gives ends.next_gives
+        ends.next_back_gives (spec.decode_bound lower_kind lower.now) (spec.decode_bound upper_kind
+        upper.now) seqno runs.now) }
     ensures err { IfErr result (λ e. e ≡ spec.OutOfMemory) }
 {
     let range = bounds(alloc, lower_kind, lower, upper_kind, upper)?;
@@ -74,12 +70,11 @@ fn begin_merged(
     requires { range.old.boxed.value ≡ None }
     ensures begins { spec.OpensNewWithin lower_kind upper_kind spec.are_runs held.now.what
         range.new.boxed.value result }
-    ensures ranges { result ≡ 0 → IsSomeAnd range.new.boxed.value (λ r.
-        spec.RangesRunsHeld ⟦<ReaderAt as Iterator>⟧.next_gives
-        ⟦<ReaderAt as DoubleEndedIterator>⟧.next_back_gives
-        ⟦<NewestAt as Iterator>⟧.next_gives
-        ⟦<NewestAt as DoubleEndedIterator>⟧.next_back_gives
-        lower_kind lower.now upper_kind upper.now seqno held.now.what r.what) }
+    ensures ranges { let below = ⟦<ReaderAt as DoubleEndedIterator>⟧ in
+        let ends = ⟦<NewestAt as DoubleEndedIterator>⟧ in
+        result ≡ 0 → IsSomeAnd range.new.boxed.value (λ r. spec.RangesRunsHeld below.next_gives
+        below.next_back_gives ends.next_gives ends.next_back_gives lower_kind lower.now upper_kind
+        upper.now seqno held.now.what r.what) }
 {
     let What::Runs(runs) = &held.what else {
         return OTHER_KIND;
@@ -124,12 +119,11 @@ pub extern "C" fn sst_runs_range_open(
     ensures opens { spec.OpensWithin lower_kind upper_kind spec.are_runs runs.old.boxed.value
         runs.new.boxed.value range.old.boxed.value range.new.boxed.value result }
     // It yields the newest versions within the bounds and below `seqno`, from both ends.
-    ensures ranges { spec.MakesFrom runs.old.boxed.value result range.new.boxed.value
-        (spec.RangesRunsHeld ⟦<ReaderAt as Iterator>⟧.next_gives
-        ⟦<ReaderAt as DoubleEndedIterator>⟧.next_back_gives
-        ⟦<NewestAt as Iterator>⟧.next_gives
-        ⟦<NewestAt as DoubleEndedIterator>⟧.next_back_gives
-        lower_kind lower.now upper_kind upper.now seqno) }
+    ensures ranges { let below = ⟦<ReaderAt as DoubleEndedIterator>⟧ in
+        let ends = ⟦<NewestAt as DoubleEndedIterator>⟧ in
+        spec.MakesFrom runs.old.boxed.value result range.new.boxed.value (spec.RangesRunsHeld
+        below.next_gives below.next_back_gives ends.next_gives ends.next_back_gives lower_kind
+        lower.now upper_kind upper.now seqno) }
 {
     if range.is_open() {
         return OPEN;

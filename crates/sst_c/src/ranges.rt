@@ -281,10 +281,9 @@ fn take(
         (result ≡ 102) × (spec.found_by held.new ≡ None) × (held.new.what ≡ held.old.what) }
     ensures none { spec.is_range held.old.what ≡ false → (count.new ≡ count.old)
         × (entries.new ≡ entries.old) × (bytes.new ≡ bytes.old) }
-    ensures takes { spec.TakesRange ⟦<NewestAt as Iterator>⟧.next_gives
-        ⟦<NewestAt as DoubleEndedIterator>⟧.next_back_gives back entries.old
-        entries.new bytes.old bytes.new count.new held.old.what result (spec.found_by held.new)
-        held.new.what }
+    ensures takes { let ends = ⟦<NewestAt as DoubleEndedIterator>⟧ in
+        spec.TakesRange ends.next_gives ends.next_back_gives back entries.old entries.new bytes.old
+        bytes.new count.new held.old.what result (spec.found_by held.new) held.new.what }
 {
     if !held.is_range() {
         held.found.clear();
@@ -329,10 +328,10 @@ pub extern "C" fn sst_range_take(
     ensures through { spec.TakesThrough spec.is_range range.old.boxed.value range.new.boxed.value
         entries.old entries.new bytes.old bytes.new count.new result found.new }
     // It makes as many steps as needed, each as `sst_range_next` does.
-    ensures takes { spec.ReadsHeld range.old.boxed.value result range.new.boxed.value
-        (spec.TakesRange ⟦<NewestAt as Iterator>⟧.next_gives
-        ⟦<NewestAt as DoubleEndedIterator>⟧.next_back_gives back
-        entries.old entries.new bytes.old bytes.new count.new) }
+    ensures takes { let ends = ⟦<NewestAt as DoubleEndedIterator>⟧ in
+        spec.ReadsHeld range.old.boxed.value result range.new.boxed.value (spec.TakesRange
+        ends.next_gives ends.next_back_gives back entries.old entries.new bytes.old bytes.new
+        count.new) }
 {
     *count = 0;
     *found = tell(None);

@@ -1,5 +1,5 @@
 //! Registration of a table's keys with its filter.
-ghost use Rattle.std.specs.Prelude.{◌≡◌, ◌<◌, ◌^◌, ◌&&◌, [], nat_lt, OnOk, IfOk};
+ghost use Rattle.std.specs.Prelude.{◌≡◌, ◌<◌, ◌^◌, ◌&&◌, ℕ, List, [], nat_lt, OnOk, IfOk};
 ghost use Rattle.std.specs.Prelude.{IfErr};
 ghost use Rattle.lsm_writers.specs.Words as spec;
 
@@ -76,9 +76,9 @@ pub(crate) fn finish_filter<A: Allocator + Clone>(
     file_writer: &mut SectionWriter<A>,
 ) -> Result<usize, Error>
     requires { spec.HasNoFilter file_writer.old }
-    ensures ok { IfOk result (λ n. spec.ForKeysOf options.now filter_writer
-        (λ keys. spec.WritesFilter options.now.filter_kind options.now.bloom_policy keys
-        file_writer.old file_writer.new n)) }
+    ensures ok { let kind = options.now.filter_kind in let policy = options.now.bloom_policy in
+        IfOk result (λ n. (keys : List (List ℕ)) → spec.MayHaveKeys kind policy filter_writer keys →
+        spec.WritesFilter kind policy keys file_writer.old file_writer.new n) }
     ensures refused { spec.ForKeysOf options.now filter_writer
         (λ keys. spec.Faults result (spec.filter_fault options.now.filter_kind
         options.now.bloom_policy keys)) }
