@@ -1,5 +1,5 @@
 -- Results of calls on a source over a file.
-use Rattle.std.proofs.Common.{◌≡◌, Bool, true, false, List, refl, subst, sym, ap, ◌∙◌}
+use Rattle.std.proofs.Common.{◌≡◌, false, List, refl, subst, sym, ap, ◌∙◌}
 use Rattle.std.specs.Prelude.{Result, Ok, Err, IfErr, IfOk, IsOk}
 use Rattle.std.specs.Result.{IsErrAnd}
 use Rattle.sst_entries.specs.declared.error.Error.{Error}

@@ -1,6 +1,5 @@
 use Rattle.std.proofs.Common.{◌≡◌, ℕ, ◌-◌, List, ap, subst, sym, ◌∙◌}
-use Rattle.std.specs.Prelude.{Result, Ok}
-use Rattle.sst_entries.specs.declared.error.Error.{Error}
+use Rattle.std.specs.Prelude.{Ok}
 use Rattle.sst_entries.specs.Entry.{Entry}
 use Rattle.sst_blocks.specs.Block.{load_at_result}
 use Rattle.sst_blocks.specs.Cursor.{Cursor}
