@@ -12,7 +12,8 @@ use Rattle.lsm_files.specs.Reads.{Reads}
 use Rattle.lsm_files.specs.Results.{FileGives}
 use Rattle.lsm_files.specs.Tail.{IsTrailerError}
 
-module _ {X Y : Type 0} (reads : Reads) (view : X → Y) (bytes : List ℕ) (parts : Result Y Error) where
+module _ {X Y : Type 0} (reads : Reads) (view : X → Y) (bytes : List ℕ)
+    (parts : Result Y Error) where
   trailer_error : (e : FileError) → IsTrailerError reads bytes e
       → FileGives reads view (Err e) (unless (trailer_fault bytes) parts)
   trailer_error (Io f) may = may
