@@ -11,7 +11,7 @@ use Rattle.sst_entries.specs.Error.{is_memory}
 use Rattle.sst_blocks.specs.declared.block_type.BlockType.{BlockType}
 use Rattle.sst_blocks.specs.Block.{decode_block, head_size, load_at_result}
 use Rattle.sst_blocks.specs.Sections.{body_of}
-use Rattle.sst_blocks.proofs.LoadLemmas.{decode_part, load_at_truncated}
+use Rattle.sst_blocks.proofs.LoadLemmas.{decode_part}
 use Rattle.lsm_files.specs.declared.error.FileError.{FileError}
 use Rattle.lsm_files.specs.declared.error.FileError.TheVariants.{Io, Table}
 use Rattle.lsm_files.specs.Reads.{IsPartAt, Reads, whole}

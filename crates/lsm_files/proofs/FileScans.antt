@@ -1,5 +1,6 @@
 -- A scan of a table in its file: what a step of it comes to.
-use Rattle.std.proofs.Common.{◌≡◌, ℕ, zero, suc, ◌+◌, ◌-◌, ◌<◌, Bool, true, false, List, [], ◌∷◌, refl, sym}
+use Rattle.std.proofs.Common.{◌≡◌, ℕ, zero, suc, ◌-◌, ◌<◌, Bool, true, false, List, [], ◌∷◌}
+use Rattle.std.proofs.Common.{refl, sym}
 use Rattle.std.proofs.Common.{ap, subst, ◌∙◌, arith}
 use Rattle.std.proofs.lemmas.Result.{err_from_is_err_and}
 use Rattle.std.specs.Prelude.{Option, Some, None, Result, Ok, Err, OnOk, is_some}
@@ -11,7 +12,8 @@ use Rattle.sst_blocks.specs.declared.opened.Opened.{Opened}
 use Rattle.lsm_readers.specs.point.Read.{◌>>=◌}
 use Rattle.sst_entries.specs.declared.error.Error.{Error}
 use Rattle.sst_entries.specs.Entry.{Entry}
-use Rattle.lsm_readers.specs.Scan.{Scan, behind, block_result, ended, entries_from, fault_of, lend_first, lend_next}
+use Rattle.lsm_readers.specs.Scan.{Scan, behind, block_result, ended, entries_from, fault_of}
+use Rattle.lsm_readers.specs.Scan.{lend_first, lend_next}
 use Rattle.lsm_readers.specs.Scan.{lifted_result, scan_left, unlend}
 use Rattle.lsm_readers.proofs.Scans.{block_left, ended_left, entry_left}
 use Rattle.lsm_files.specs.declared.error.FileError.{FileError}
@@ -199,8 +201,20 @@ block_read body position b es next is entries end = rw (is, entries, end) refl
 -- the block that follows
 pub moved_by : (u s : Scan) (body : List ℕ) (es : List Entry) (next : ℕ) (o : Opened) → u ≡ s
     → body ≡ u.body → o ≡ with_load Data u.opened
-    → record u { body = body; lent = None; entries = es; position = next; blocks = u.blocks - 1; opened = o }
-    ≡ record s { lent = None; entries = es; position = next; blocks = s.blocks - 1; opened = with_load Data s.opened }
+    → record u {
+      body = body;
+      lent = None;
+      entries = es;
+      position = next;
+      blocks = u.blocks - 1;
+      opened = o;
+    } ≡ record s {
+      lent = None;
+      entries = es;
+      position = next;
+      blocks = s.blocks - 1;
+      opened = with_load Data s.opened;
+    }
 moved_by u s body es next o same kept counts = rw (kept, counts, same) refl
 
 pub halted_by : (u s : Scan) (body : List ℕ) (o : Opened) → u ≡ s → body ≡ u.body

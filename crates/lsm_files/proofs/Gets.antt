@@ -1,5 +1,5 @@
 -- Results of calls on a source over a file.
-use Rattle.std.proofs.Common.{◌≡◌, Bool, true, false, List, refl, subst, sym, ap, ◌∙◌}
+use Rattle.std.proofs.Common.{◌≡◌, false, List, refl, subst, sym, ap, ◌∙◌}
 use Rattle.std.specs.Prelude.{Result, Ok, Err, IfErr, IfOk, IsOk}
 use Rattle.std.specs.Result.{IsErrAnd}
 use Rattle.sst_entries.specs.declared.error.Error.{Error}
@@ -51,7 +51,8 @@ unwanted reads r (Err e) err calm = refused reads r e err calm
 
 -- the loads of a result that a source passed on
 pub passed_opens : {X : Type 0} (reads : Reads) (r : Result X FileError) (found : Result X Error)
-    (loads : List BlockType) (old new : Opened) → IfErr found (λ e. IsErrAnd r (IsFailureOr reads e))
+    (loads : List BlockType) (old new : Opened)
+    → IfErr found (λ e. IsErrAnd r (IsFailureOr reads e))
     → Opens found loads old new → Opens (failure_as_memory r) loads old new
 passed_opens reads r found loads old new err opens = record {
   made = opens.made;

@@ -1,14 +1,14 @@
 -- Loads of blocks whose bytes were read.
-use Rattle.std.proofs.Common.{◌≡◌, ℕ, ◌+◌, ◌≤◌, false, List, length, slice_range, subst, ap, sym, ◌∙◌}
+use Rattle.std.proofs.Common.{◌≡◌, ℕ, ◌+◌, ◌≤◌, false, List, length, ap, sym, ◌∙◌}
 use Rattle.std.proofs.lemmas.Result.{err_from_is_err_and}
-use Rattle.std.specs.Prelude.{Result, Ok, Err}
+use Rattle.std.specs.Prelude.{Result, Err}
 use Rattle.std.specs.Result.{IsErrAnd}
 use Rattle.sst_entries.specs.declared.error.Error.{Error}
 use Rattle.sst_entries.specs.declared.error.Error.TheVariants.{Truncated}
 use Rattle.sst_entries.specs.Error.{Fails, Gives, is_memory}
 use Rattle.sst_blocks.specs.declared.block_type.BlockType.{BlockType}
 use Rattle.sst_blocks.specs.Access.{IsInMemory, IsKnown as IsKnownTo}
-use Rattle.sst_blocks.specs.Block.{Loaded, decode_block, load_result}
+use Rattle.sst_blocks.specs.Block.{decode_block, load_result}
 use Rattle.sst_blocks.proofs.LoadLemmas.{decode_part, load_truncated}
 use Rattle.lsm_files.specs.Reads.{IsKnown, IsPartAt, Reads, access_of, may_fail, unknown, whole}
 

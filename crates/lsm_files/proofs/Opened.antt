@@ -1,7 +1,7 @@
 -- Opening a table in its file.
 use Rattle.std.proofs.Common.{◌≡◌, List, ℕ, ap, subst, sym}
 use Rattle.std.proofs.lemmas.Result.{err_from_is_err_and}
-use Rattle.std.specs.Prelude.{Option, None, Result, Ok, Err}
+use Rattle.std.specs.Prelude.{Option, None, Result, Err}
 use Rattle.std.specs.Result.{IsErrAnd}
 use Rattle.sst_entries.specs.declared.error.Error.{Error}
 use Rattle.sst_entries.specs.Error.{unless}
@@ -12,7 +12,8 @@ use Rattle.lsm_files.specs.Reads.{Reads}
 use Rattle.lsm_files.specs.Results.{FileGives}
 use Rattle.lsm_files.specs.Tail.{IsTrailerError}
 
-module _ {X Y : Type 0} (reads : Reads) (view : X → Y) (bytes : List ℕ) (parts : Result Y Error) where
+module _ {X Y : Type 0} (reads : Reads) (view : X → Y) (bytes : List ℕ)
+    (parts : Result Y Error) where
   trailer_error : (e : FileError) → IsTrailerError reads bytes e
       → FileGives reads view (Err e) (unless (trailer_fault bytes) parts)
   trailer_error (Io f) may = may

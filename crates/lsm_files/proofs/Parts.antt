@@ -1,5 +1,6 @@
 -- Parts of some bytes.
-use Rattle.std.proofs.Common.{◌≡◌, ℕ, ◌+◌, ◌-◌, ◌≤◌, List, length, take, drop, slice_range, ap, sym, ◌∙◌, arith}
+use Rattle.std.proofs.Common.{◌≡◌, ℕ, ◌+◌, ◌-◌, ◌≤◌, List, length, drop, slice_range, ap, sym}
+use Rattle.std.proofs.Common.{◌∙◌, arith}
 use Rattle.std.proofs.lemmas.List.{length-drop, length-take, take_all}
 use Rattle.sst_blocks.specs.Sections.{body_of, trailer_of}
 use Rattle.sst_blocks.proofs.MarkLemmas.{body_part}

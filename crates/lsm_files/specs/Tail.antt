@@ -1,6 +1,5 @@
 -- The trailer of a table in its file.
 use Rattle.std.specs.Prelude.{◌≡◌, ◌<◌, ℕ, false, List, Option, Some, None, length, map, take}
-use Rattle.sst_entries.specs.declared.error.Error.{Error}
 use Rattle.sst_entries.specs.declared.error.Error.TheVariants.{Truncated}
 use Rattle.sst_entries.specs.Error.{is_memory}
 use Rattle.sst_blocks.specs.declared.section.Section.{Section}

@@ -4,6 +4,7 @@ pub use Rattle.std.specs.Result.{IsErrAnd}
 pub use Rattle.sst_entries.specs.Entry.{Entry}
 pub use Rattle.sst_entries.specs.Error.{Gives, is_memory}
 pub use Rattle.sst_entries.specs.Point.{point}
+pub use Rattle.sst_entries.specs.Stream.{ok_results}
 pub use Rattle.sst_entries.specs.Lending.{entry_of_ref}
 pub use Rattle.sst_entries.specs.declared.error.Error.TheVariants.{OutOfMemory, Truncated}
 pub use Rattle.sst_blocks.specs.Access.{IsKnown as IsKnownTo}

@@ -12,8 +12,8 @@ use std::os::unix::fs::FileExt;
 
 /// Bytes that are read at an offset, as those of a file.
 ///
-/// An implementor says what contracts know of its bytes. Bytes that may change are unknown. Those of
-/// a [`File`] are, since other programs can write to it.
+/// An implementor says what contracts know of its bytes. Bytes that may change are unknown, such as
+/// those of a [`File`], to which other programs can write.
 pub trait ReadAt {
     ghost use Rattle.std.specs.Prelude.{◌≡◌, ◌+◌, ◌<◌, List, ℕ, IfOk, IsOk, OnErr, OnOk, length};
     ghost use Rattle.lsm_files.specs.Reads.{IsKnown, IsPartAt, NeverFails, Reads};

@@ -1,6 +1,6 @@
 //! Scanning a whole table in its file, block by block.
 ghost use Rattle.std.specs.Prelude.{◌≡◌, ◌<◌, ◌-◌, ◌↔◌, ℕ, [], Bool, List, Ok, None, is_some};
-ghost use Rattle.std.specs.Prelude.{IfOk, IsTrue, OnErr, OnOk};
+ghost use Rattle.std.specs.Prelude.{length, IfOk, IsTrue, OnErr, OnOk};
 ghost use Rattle.lsm_files.specs.Words as spec;
 
 use crate::ahead::Ahead;
@@ -13,8 +13,8 @@ use std::mem;
 
 /// A pass over all entries of a table in its file, which reads each data block once, in file order.
 ///
-/// It reads 256 KiB of neighbouring blocks at once. [`FileScanner::advance`] borrows each entry from
-/// its block. After any error the scanner is exhausted.
+/// It reads up to 256 KiB of neighbouring blocks at once. [`FileScanner::entry`] borrows each entry
+/// from its block. After any error the scanner is exhausted.
 #[derive(Drop)]
 pub struct FileScanner<'a, R: ReadAt, A: Allocator = Global> {
     blocks: Ahead<'a, R, A>,
@@ -85,6 +85,11 @@ impl<R: ReadAt + Drop, A: Allocator + Clone> FileTable<R, A> {
         ensures left { spec.IsKnown R.reads → IfOk result (λ s. spec.scan_left s ≡
             spec.scan_results (spec.body_of self.now.bytes) self.now.parts.facts.data_block_count
             self.now.global_seqno) }
+        // On bytes that store a list it yields the list, global seqno applied.
+        ensures list { spec.IsKnown R.reads →
+            (es : List spec.Entry) → spec.StoresList self.now.bytes es → 0 < length es →
+            IfOk result (λ s. spec.scan_left s ≡
+            spec.ok_results (spec.lift es self.now.global_seqno)) }
         ensures opened { IfOk result (λ s. s.opened ≡ spec.with_load spec.Data spec.none_opened) }
     {
         let mut blocks = Ahead::new(&self.file, &self.alloc, self.body_len);

@@ -11,9 +11,9 @@ use std::marker::Model;
 
 /// An open table that stays in its file.
 ///
-/// [`FileTable::open`] reads the trailer, the meta block and the blocks to pin. Each call then reads
-/// the blocks that it needs. Contracts see the table that [`Table::recover`] opens from the same
-/// bytes, where these are known.
+/// [`FileTable::open`] reads the trailer, the meta block and the blocks to pin. Each later call
+/// reads the blocks that it needs. Contracts see the table that [`Table::recover`] opens from the
+/// same bytes, where these are known.
 ///
 /// [`Table::recover`]: lsm_readers::Table::recover
 #[derive(Drop)]

@@ -1,4 +1,4 @@
-use Rattle.std.proofs.Common.{◌≡◌, ℕ, ◌<◌, List, Vec, length, arith, ap, subst, sym, ◌∙◌}
+use Rattle.std.proofs.Common.{◌≡◌, ℕ, ◌+◌, List, Vec, take, arith, ap, subst, sym, ◌∙◌}
 use Rattle.std.proofs.lemmas.List.{take_all}
 use Rattle.std.specs.Prelude.{Option, Result, Ok, Err}
 use Rattle.sst_entries.specs.declared.error.Error.{Error}
@@ -19,9 +19,6 @@ asked b body g parts key name bound r same is gives =
     subst (λ (k : List ℕ). Gives (λ (x : Option Entry). x) r (answer body g parts k bound).returned) is
     (subst (λ (c : List ℕ). Gives (λ (x : Option Entry). x) r (answer c g parts key bound).returned) same gives)
 
-abbrev found_all : List (Option Entry) → Result (List (Option Entry)) Error
-found_all es = Ok es
-
 pub loop-query-preserved : goal.loop-query-preserved
 loop-query-preserved g c =
     let inner = c.args.inner.now in
@@ -33,8 +30,8 @@ loop-query-preserved g c =
       same = c.point_in.ensures.body ∙ c.loop-query.invariant.same;
       found = λ known.
           let here = asked (g.S.LoadBlocks.body c.loop-query.source) body inner.global_seqno (parts_of inner) c.as_slice-key.result.now q.key q.seqno (Ok one) c.loop-query.invariant.same c.as_slice-key.ensures (c.in_ok-one.ensures.returned known) in
-          one_more f c.args.queries.now c.loop-query.query-index q c.loop-query.found.items one (omega arith) c.query-item.is (c.loop-query.invariant.found known) here
-          ∙ ap found_all (sym c.in_ok-push.ensures.items);
+          subst (λ (es : List (Option Entry)). answers_to f (take (c.loop-query.query-index + 1) c.args.queries.now) ≡ Ok es) (sym c.in_ok-push.ensures.items)
+          (one_more f c.args.queries.now c.loop-query.query-index q c.loop-query.found.items one (omega arith) c.query-item.is (c.loop-query.invariant.found known) here);
     }
 
 pub returns-in_err-one : goal.returns-in_err-one

@@ -1,7 +1,7 @@
-use Rattle.std.proofs.Common.{◌≡◌, ℕ, ◌+◌, ◌≤◌, List, length, arith, ap, subst, sym, ◌∙◌}
+use Rattle.std.proofs.Common.{ℕ, ◌+◌, List, length, arith, subst, sym, ◌∙◌}
 use Rattle.std.proofs.lemmas.Result.{err_from_is_err_and}
 use Rattle.sst_blocks.specs.Sections.{body_of}
-use Rattle.sst_blocks.specs.Block.{Loaded, head_size, load_at_result}
+use Rattle.sst_blocks.specs.Block.{Loaded, load_at_result}
 use Rattle.sst_blocks.proofs.LoadLemmas.{load_at_truncated}
 use Rattle.lsm_files.specs.Reads.{IsPartAt}
 use Rattle.lsm_files.specs.Tail.{IsPartError}

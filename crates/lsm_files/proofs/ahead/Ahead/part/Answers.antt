@@ -1,4 +1,4 @@
-use Rattle.std.proofs.Common.{◌≡◌, ℕ, ◌+◌, ◌≤◌, List, length, arith, subst}
+use Rattle.std.proofs.Common.{ℕ, ◌+◌, ◌≤◌, List, length, arith, subst}
 use Rattle.sst_blocks.specs.Sections.{body_of}
 use Rattle.lsm_files.specs.Reads.{IsPartAt}
 use Rattle.lsm_files.proofs.Aheads.{first_part, kept_part}

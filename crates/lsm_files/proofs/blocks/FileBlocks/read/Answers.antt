@@ -1,4 +1,4 @@
-use Rattle.std.proofs.Common.{◌≡◌, ℕ, ◌+◌, ◌≤◌, List, length, arith, ap, subst, ◌∙◌}
+use Rattle.std.proofs.Common.{◌≡◌, ℕ, ◌+◌, ◌≤◌, List, length, arith, subst}
 use Rattle.std.specs.Prelude.{Bool}
 use Rattle.sst_blocks.specs.Sections.{body_of}
 use Rattle.sst_blocks.specs.declared.opened.Opened.{Opened}

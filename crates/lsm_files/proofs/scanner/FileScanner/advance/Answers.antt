@@ -1,5 +1,5 @@
 use Rattle.std.proofs.Common.{◌≡◌, ◌∙◌, true, false, Bool, List, ap, sym, subst, refl}
-use Rattle.std.specs.Prelude.{Option, None, Ok, Err, Result}
+use Rattle.std.specs.Prelude.{None, Ok, Err, Result}
 use Rattle.std.proofs.lemmas.Result.{err_from_is_err_and}
 use Rattle.sst_entries.specs.Entry.{Entry}
 use Rattle.sst_entries.specs.declared.error.Error.{Error}

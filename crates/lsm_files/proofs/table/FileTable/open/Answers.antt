@@ -32,9 +32,11 @@ pub invariant_of-result : goal.invariant_of-result
 invariant_of-result g c known =
     let bytes = g.R.ReadAt.bytes c.args.file in
     let inner = c.in_ok-inner.inner in
-    let returned = returns-clause-returned g c known in
-    (sym (c.in_ok-toc.ensures.toc known).body, record {
-      pin_filter = c.args.pin_filter;
-      pin_index = c.args.pin_index;
-      returned = subst (λ (n : ℕ). recovered_result bytes n c.args.pin_filter c.args.pin_index ≡ Ok (parts_of inner)) (sym c.in_ok-inner.ensures.number) returned;
-    })
+    let returned = returns-clause-returned g c known in (
+      sym (c.in_ok-toc.ensures.toc known).body,
+      record {
+        pin_filter = c.args.pin_filter;
+        pin_index = c.args.pin_index;
+        returned = subst (λ (n : ℕ). recovered_result bytes n c.args.pin_filter c.args.pin_index ≡ Ok (parts_of inner)) (sym c.in_ok-inner.ensures.number) returned;
+      },
+    )

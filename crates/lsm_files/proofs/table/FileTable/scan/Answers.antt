@@ -1,13 +1,13 @@
 use Rattle.std.proofs.Common.{◌≡◌, ℕ, ◌-◌, List, ap, subst, sym, ◌∙◌}
-use Rattle.std.specs.Prelude.{Result, Ok}
-use Rattle.sst_entries.specs.declared.error.Error.{Error}
+use Rattle.std.specs.Prelude.{Ok}
 use Rattle.sst_entries.specs.Entry.{Entry}
 use Rattle.sst_blocks.specs.Block.{load_at_result}
 use Rattle.sst_blocks.specs.Cursor.{Cursor}
 use Rattle.sst_blocks.specs.Sections.{body_of}
 use Rattle.sst_blocks.specs.declared.block_type.BlockType.TheVariants.{Data}
 use Rattle.lsm_readers.specs.Scan.{block_result, entries_from, fault_of, scan_results}
-use Rattle.lsm_readers.specs.point.Table.{OpenTable}
+use Rattle.lsm_readers.specs.point.Table.{IsRecovered, OpenTable}
+use Rattle.lsm_readers.proofs.StoredParts.{stored_scan}
 use Rattle.lsm_readers.proofs.Scans.{first_left, same_left}
 use Rattle.lsm_files.specs.Results.{FileFaults}
 use Rattle.lsm_files.proofs.FileScans.{scan_refused}
@@ -32,3 +32,9 @@ returns-clause-left g c known =
     same (ap (λ (k : Cursor). k.behind) c.into_cursor.ensures) c.saturating_sub.ensures in
     subst (λ (t : OpenTable). entries_from (body_of c.block_at.new.blocks) add c.into_cursor.result.behind c.in_ok-block.position c.saturating_sub.result
     ≡ scan_results (body_of t.bytes) t.parts.facts.data_block_count t.global_seqno) c.self.view_is (rest ∙ sym first)
+
+pub returns-clause-list : goal.returns-clause-list
+returns-clause-list g c known es is some =
+    let t = c.args.self.now in
+    let held = subst IsRecovered c.self.view_is (c.self.invariant known).1 in
+    returns-clause-left g c known ∙ stored_scan t.bytes es is t.global_seqno held.pin_filter held.pin_index t.parts held.returned some
