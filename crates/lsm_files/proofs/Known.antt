@@ -1,9 +1,9 @@
 -- What is known of bytes that are read at an offset.
 use Rattle.std.proofs.Common.{ℕ, ◌<◌, ◌≤◌, ◌⊎◌, inl, inr, arith}
-use Rattle.lsm_files.specs.Reads.{IsKnown, MayFail, NeverFails, Reads, may_fail, unknown, whole}
+use Rattle.lsm_files.specs.Reads.{AreKnown, MayFail, NeverFails, Reads, may_fail, unknown, whole}
 
 -- bytes whose reads never fail are known
-pub never_known : (r : Reads) → NeverFails r → IsKnown r
+pub never_known : (r : Reads) → NeverFails r → AreKnown r
 never_known whole never = tt
 never_known may_fail never = tt
 never_known unknown never = never

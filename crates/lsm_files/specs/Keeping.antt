@@ -6,10 +6,10 @@ use Rattle.sst_blocks.specs.Place.{Place}
 use Rattle.lsm_files.specs.declared.keeping.Kept.{Kept}
 
 -- This block is the result of loading a block of a type at an offset.
-abbrev pub IsLoaded : List ℕ → Place → BlockType → Loaded → Type 0
-IsLoaded body place kind b = load_result body place.offset place.size kind ≡ Ok b
+abbrev pub IsLoadOf : List ℕ → Place → BlockType → Loaded → Type 0
+IsLoadOf body place kind b = load_result body place.offset place.size kind ≡ Ok b
 
 -- A cached block, if any, is a block of these bytes.
-abbrev pub KeepsOf : {A : Type 0} → List ℕ → Option (Kept A) → Type 0
-KeepsOf body None = Unit {0}
-KeepsOf body (Some kept) = IsLoaded body kept.handle (kept.block).kind kept.block
+abbrev pub KeepsBlockOf : {A : Type 0} → List ℕ → Option (Kept A) → Type 0
+KeepsBlockOf body None = Unit {0}
+KeepsBlockOf body (Some kept) = IsLoadOf body kept.handle (kept.block).kind kept.block

@@ -9,10 +9,11 @@ pub data Reads : Type 0 where
   may_fail : Reads
   unknown : Reads
 
-abbrev pub IsKnown : Reads → Type 0
-IsKnown whole = Unit {0}
-IsKnown may_fail = Unit {0}
-IsKnown unknown = ⊥
+-- The bytes are known.
+abbrev pub AreKnown : Reads → Type 0
+AreKnown whole = Unit {0}
+AreKnown may_fail = Unit {0}
+AreKnown unknown = ⊥
 
 -- Each read within the bytes succeeds.
 abbrev pub NeverFails : Reads → Type 0

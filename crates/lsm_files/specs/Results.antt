@@ -1,8 +1,13 @@
 -- Results of calls on a table in its file.
-use Rattle.std.specs.Prelude.{◌≡◌, ◌<◌, ◌⊎◌, ℕ, false, Option, Some, None, Result, Ok, Err}
+use Rattle.std.specs.Prelude.{◌≡◌, ◌<◌, ◌⊎◌, ℕ, false, List, Option, Some, None, Result, Ok, Err}
 use Rattle.sst_entries.specs.declared.error.Error.{Error}
 use Rattle.sst_entries.specs.declared.error.Error.TheVariants.{OutOfMemory}
+use Rattle.sst_entries.specs.Entry.{Entry}
 use Rattle.sst_entries.specs.Error.{Fails, is_memory}
+use Rattle.sst_entries.specs.Point.{point}
+use Rattle.lsm_readers.specs.point.Answer.{lift}
+use Rattle.lsm_readers.specs.point.Table.{OpenTable}
+use Rattle.lsm_readers.specs.Stored.{StoresList}
 use Rattle.lsm_files.specs.declared.error.FileError.{FileError}
 use Rattle.lsm_files.specs.declared.error.FileError.TheVariants.{Io, Table}
 use Rattle.lsm_files.specs.Reads.{MayFail, Reads}
@@ -47,3 +52,11 @@ abbrev pub failure_as_memory : {X : Type 0} → Result X FileError → Result X 
 failure_as_memory (Ok x) = Ok x
 failure_as_memory (Err (Io e)) = Err OutOfMemory
 failure_as_memory (Err (Table e)) = Err e
+
+-- On bytes that store a list, a read of a table returned the newest visible version in the list,
+-- global seqno applied.
+abbrev pub FileFindsInList : Reads → OpenTable → List ℕ → ℕ → Result (Option Entry) FileError
+    → Type 0
+FileFindsInList reads t key bound r =
+    (es : List Entry) → StoresList t.bytes es →
+    FileGives reads (λ (x : Option Entry). x) r (Ok (point (lift es t.global_seqno) key bound))

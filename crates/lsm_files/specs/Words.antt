@@ -23,9 +23,10 @@ pub use Rattle.lsm_readers.specs.point.Table.{IsRecovered, OpenTable, parts_of}
 pub use Rattle.lsm_readers.specs.Scan.{IsEndedScan, block_result, ended, fault_of}
 pub use Rattle.lsm_readers.specs.Scan.{lend_next, loads, loads_of, scan_left, scan_results}
 pub use Rattle.lsm_readers.specs.Stored.{StoresList}
-pub use Rattle.lsm_files.specs.Keeping.{IsLoaded, KeepsOf}
-pub use Rattle.lsm_files.specs.Reads.{IsKnown, IsPartAt, NeverFails, whole}
-pub use Rattle.lsm_files.specs.Results.{FileFaults, FileGives, IsFailure, IsFailureOr, IsIo}
+pub use Rattle.lsm_files.specs.Keeping.{IsLoadOf, KeepsBlockOf}
+pub use Rattle.lsm_files.specs.Reads.{AreKnown, IsPartAt, NeverFails, whole}
+pub use Rattle.lsm_files.specs.Results.{FileFaults, FileFindsInList, FileGives, IsFailure}
+pub use Rattle.lsm_files.specs.Results.{IsFailureOr, IsIo}
 pub use Rattle.lsm_files.specs.Results.{IsReadError, failure_as_memory}
 pub use Rattle.lsm_files.specs.Scan.{in_file, next_of, rest_of}
 pub use Rattle.lsm_files.specs.Tail.{IsTailOf, IsTocOf, IsTrailerError, IsPartError}

@@ -31,21 +31,21 @@ pub(crate) struct Ahead<'a, R: ReadAt, A: Allocator = Global> {
 impl<'a, R: ReadAt, A: Allocator> Model for Ahead<'a, R, A> {
     ghost use Rattle.std.specs.Prelude.{◌≡◌, List, ℕ, length};
     ghost use Rattle.sst_blocks.specs.Sections.{body_of};
-    ghost use Rattle.lsm_files.specs.Reads.{IsKnown, IsPartAt};
+    ghost use Rattle.lsm_files.specs.Reads.{AreKnown, IsPartAt};
 
     // The bytes of the file.
     ghost Value = { List ℕ };
 
     ghost view = { λ s. R.bytes s.file.now };
 
-    ghost invariant = { λ s. let bytes = R.bytes s.file.now in IsKnown R.reads →
+    ghost invariant = { λ s. let bytes = R.bytes s.file.now in AreKnown R.reads →
         (s.body_len ≡ length (body_of bytes)) × IsPartAt bytes s.chunk.at s.chunk.bytes };
 }
 
 impl<'a, R: ReadAt, A: Allocator + Clone> Ahead<'a, R, A> {
     /// Creates a reader of the blocks in a file whose trailer starts at `body_len`.
     pub(crate) fn new(file: &'a R, alloc: &'a A, body_len: u64) -> Ahead<'a, R, A>
-        requires { spec.IsKnown R.reads → body_len ≡ length (spec.body_of (R.bytes file.now)) }
+        requires { spec.AreKnown R.reads → body_len ≡ length (spec.body_of (R.bytes file.now)) }
         ensures { result ≡ R.bytes file.now }
     {
         let chunk = Chunk {
@@ -73,7 +73,7 @@ impl<'a, R: ReadAt, A: Allocator + Clone> Ahead<'a, R, A> {
         position: u64,
         kind: BlockType,
     ) -> Result<(Block<A>, u64), FileError>
-        ensures returned { spec.IsKnown R.reads →
+        ensures returned { spec.AreKnown R.reads →
             spec.FileGives R.reads (λ (b : spec.Loaded × ℕ). b.0) result
             (spec.load_at_result (spec.body_of self.old) position kind) }
         ensures next { IfOk result
@@ -93,9 +93,9 @@ impl<'a, R: ReadAt, A: Allocator + Clone> Ahead<'a, R, A> {
         ensures len { IfOk result (λ part. length part ≡ len) }
         ensures within { OnOk result (position + len < 2 ^ 64) }
         ensures part { let body = spec.body_of self.old in
-            spec.IsKnown R.reads → IfOk result (spec.IsPartAt body position) }
+            spec.AreKnown R.reads → IfOk result (spec.IsPartAt body position) }
         ensures fault { let body = spec.body_of self.old in
-            spec.IsKnown R.reads →
+            spec.AreKnown R.reads →
             IfErr result (spec.IsPartError R.reads (length body) (position + len)) }
         ensures bytes { self.new ≡ self.old }
     {

@@ -28,7 +28,7 @@ impl<'a, R: ReadAt, A: Allocator> Model for FileBlocks<'a, R, A> {
     ghost use Rattle.std.specs.Prelude.{◌≡◌, List, ℕ, Bool, false, is_some, length};
     ghost use Rattle.sst_blocks.specs.declared.opened.Opened.{Opened};
     ghost use Rattle.sst_blocks.specs.Sections.{body_of};
-    ghost use Rattle.lsm_files.specs.Reads.{IsKnown, NeverFails};
+    ghost use Rattle.lsm_files.specs.Reads.{AreKnown, NeverFails};
 
     // The bytes of the file, the counts of loads, and whether a read failed.
     ghost Value = { List ℕ × Opened × Bool };
@@ -36,14 +36,14 @@ impl<'a, R: ReadAt, A: Allocator> Model for FileBlocks<'a, R, A> {
     ghost view = { λ s. (R.bytes s.file.now, s.opened, is_some s.failure) };
 
     ghost invariant = { λ s.
-        (IsKnown R.reads → s.body_len ≡ length (body_of (R.bytes s.file.now))) ×
+        (AreKnown R.reads → s.body_len ≡ length (body_of (R.bytes s.file.now))) ×
         (NeverFails R.reads → is_some s.failure ≡ false) };
 }
 
 impl<'a, R: ReadAt, A: Allocator + Clone> FileBlocks<'a, R, A> {
     /// Creates a source of the blocks in a file whose trailer starts at `body_len`.
     pub(crate) fn new(file: &'a R, alloc: &'a A, body_len: u64) -> FileBlocks<'a, R, A>
-        requires { spec.IsKnown R.reads → body_len ≡ length (spec.body_of (R.bytes file.now)) }
+        requires { spec.AreKnown R.reads → body_len ≡ length (spec.body_of (R.bytes file.now)) }
         ensures bytes { result.0 ≡ R.bytes file.now }
         ensures none { result.1 ≡ spec.none_opened }
         ensures whole { result.2 ≡ false }
@@ -107,11 +107,11 @@ impl<'a, R: ReadAt, A: Allocator + Clone> FileBlocks<'a, R, A> {
     /// body, else with [`Error::OutOfMemory`].
     fn read(&mut self, handle: &BlockHandle) -> Result<Slice<A>, Error>
         ensures part { let body = spec.body_of self.old.0 in
-            spec.IsKnown R.reads → IfOk result (λ part.
+            spec.AreKnown R.reads → IfOk result (λ part.
             spec.IsPartAt body handle.now.offset part × (length part ≡ handle.now.size)) }
         ensures fault { let body = spec.body_of self.old.0 in
             IfErr result (λ e. spec.is_memory e ≡ false →
-            (e ≡ spec.Truncated) × (spec.IsKnown R.reads → spec.header_len ≤ handle.now.size →
+            (e ≡ spec.Truncated) × (spec.AreKnown R.reads → spec.header_len ≤ handle.now.size →
             handle.now.offset + handle.now.size ≤ length body → ⊥)) }
         ensures bytes { self.new.0 ≡ self.old.0 }
         ensures opened { self.new.1 ≡ self.old.1 }

@@ -28,15 +28,15 @@ impl<'a, R: ReadAt, A: Allocator> Model for Keeping<'a, R, A> {
     ghost use Rattle.std.specs.Prelude.{List, ℕ, Bool};
     ghost use Rattle.sst_blocks.specs.declared.opened.Opened.{Opened};
     ghost use Rattle.sst_blocks.specs.Sections.{body_of};
-    ghost use Rattle.lsm_files.specs.Reads.{IsKnown};
-    ghost use Rattle.lsm_files.specs.Keeping.{KeepsOf};
+    ghost use Rattle.lsm_files.specs.Reads.{AreKnown};
+    ghost use Rattle.lsm_files.specs.Keeping.{KeepsBlockOf};
 
     ghost Value = { List ℕ × Opened × Bool };
 
     ghost view = { λ k. k.source };
 
-    ghost invariant = { λ k. let body = body_of k.source.0 in IsKnown R.reads →
-        KeepsOf body k.filter × (KeepsOf body k.index × KeepsOf body k.entries) };
+    ghost invariant = { λ k. let body = body_of k.source.0 in AreKnown R.reads →
+        KeepsBlockOf body k.filter × (KeepsBlockOf body k.index × KeepsBlockOf body k.entries) };
 }
 
 impl<'a, R: ReadAt, A: Allocator + Clone> Keeping<'a, R, A> {
@@ -92,8 +92,8 @@ fn kept_at<'k, A: Allocator>(
     kind: BlockType,
 ) -> Option<&'k Block<A>>
     ensures kind { IfSome result (λ b. b.now.kind ≡ kind) }
-    ensures loaded { (body : List ℕ) → spec.KeepsOf body kept.now →
-        IfSome result (λ b. spec.IsLoaded body handle.now kind b.now) }
+    ensures loaded { (body : List ℕ) → spec.KeepsBlockOf body kept.now →
+        IfSome result (λ b. spec.IsLoadOf body handle.now kind b.now) }
 {
     match kept {
         Some(kept) if kept.handle == *handle && kept.block.kind() == kind => Some(&kept.block),
@@ -109,12 +109,12 @@ fn load_kept<R: ReadAt, A: Allocator + Clone>(
     handle: &BlockHandle,
     kind: BlockType,
 ) -> Result<Block<A>, Error>
-    requires { spec.IsKnown R.reads → spec.KeepsOf (spec.body_of source.old.0) kept.old }
+    requires { spec.AreKnown R.reads → spec.KeepsBlockOf (spec.body_of source.old.0) kept.old }
     ensures returned { let body = spec.body_of source.old.0 in
-        spec.IsKnown R.reads → spec.Gives (λ (b : spec.Loaded). b) result
+        spec.AreKnown R.reads → spec.Gives (λ (b : spec.Loaded). b) result
         (spec.load_result body handle.now.offset handle.now.size kind) }
     ensures kind { IfOk result (λ b. b.kind ≡ kind) }
-    ensures kept { spec.IsKnown R.reads → spec.KeepsOf (spec.body_of source.old.0) kept.new }
+    ensures kept { spec.AreKnown R.reads → spec.KeepsBlockOf (spec.body_of source.old.0) kept.new }
     ensures body { spec.body_of source.new.0 ≡ spec.body_of source.old.0 }
     ensures opened { source.new.1 ≡ spec.with_load kind source.old.1 }
 {

@@ -46,12 +46,12 @@ impl<R: ReadAt + Drop, A: Allocator + Clone> FileTable<R, A> {
         &self,
         queries: &[Query<A>],
     ) -> Result<Vec<Option<InternalValue<A>>, A>, FileError>
-        ensures returned { spec.IsKnown R.reads →
+        ensures returned { spec.AreKnown R.reads →
             spec.FileGives R.reads (λ found. found.items) result
             (spec.many_results self.now queries.now) }
         // On bytes that store a list it is each query's newest visible version in the list, global
         // seqno applied.
-        ensures list { spec.IsKnown R.reads →
+        ensures list { spec.AreKnown R.reads →
             (es : List spec.Entry) → spec.StoresList self.now.bytes es →
             let all = spec.lift es self.now.global_seqno in
             spec.FileGives R.reads (λ found. found.items) result

@@ -16,7 +16,7 @@ use std::os::unix::fs::FileExt;
 /// those of a [`File`], to which other programs can write.
 pub trait ReadAt {
     ghost use Rattle.std.specs.Prelude.{◌≡◌, ◌+◌, ◌<◌, List, ℕ, IfOk, IsOk, OnErr, OnOk, length};
-    ghost use Rattle.lsm_files.specs.Reads.{IsKnown, IsPartAt, NeverFails, Reads};
+    ghost use Rattle.lsm_files.specs.Reads.{AreKnown, IsPartAt, NeverFails, Reads};
 
     /// What is known of the bytes, and whether reads fail.
     ghost reads: { Reads };
@@ -30,7 +30,7 @@ pub trait ReadAt {
     ///
     /// Fails if the system does.
     fn len(&self) -> io::Result<u64>
-        ensures length { IsKnown reads → IfOk result (λ n. n ≡ length (bytes self.now)) }
+        ensures length { AreKnown reads → IfOk result (λ n. n ≡ length (bytes self.now)) }
         ensures whole { NeverFails reads → IsOk result };
 
     /// Fills a buffer with the bytes from an offset on.
@@ -40,7 +40,7 @@ pub trait ReadAt {
     /// Fails if the system does, and with [`ErrorKind::UnexpectedEof`] if the bytes end before the
     /// buffer is full. The buffer's content is not specified then.
     fn read_exact_at(&self, buf: &mut [u8], offset: u64) -> io::Result<()>
-        ensures part { IsKnown reads → OnOk result (IsPartAt (bytes self.now) offset buf.new) }
+        ensures part { AreKnown reads → OnOk result (IsPartAt (bytes self.now) offset buf.new) }
         ensures whole { NeverFails reads →
             OnErr result (length (bytes self.now) < offset + length buf.old) };
 }
@@ -138,7 +138,7 @@ pub(crate) fn read_slice<R: ReadAt, A: Allocator + Clone>(
     size: u64,
 ) -> Result<Slice<A>, FileError>
     ensures len { IfOk result (λ part. length part ≡ size) }
-    ensures part { spec.IsKnown R.reads →
+    ensures part { spec.AreKnown R.reads →
         IfOk result (spec.IsPartAt (R.bytes file.now) at) }
     ensures err { IfErr result (spec.IsReadError R.reads (length (R.bytes file.now)) (at + size)) }
 {

@@ -56,7 +56,7 @@ fn block_at<R: ReadAt, A: Allocator + Clone>(
     position: u64,
     opened: &mut Opened,
 ) -> Result<(DataBlock<A>, u64), FileError>
-    ensures returned { spec.IsKnown R.reads →
+    ensures returned { spec.AreKnown R.reads →
         spec.FileGives R.reads (λ (x : List spec.Entry × ℕ). x) result
         (spec.block_result (spec.body_of blocks.old) position) }
     ensures bytes { blocks.new ≡ blocks.old }
@@ -79,14 +79,14 @@ impl<R: ReadAt + Drop, A: Allocator + Clone> FileTable<R, A> {
     ///
     /// [`Error::OutOfMemory`]: sst_blocks::Error::OutOfMemory
     pub fn scan(&self) -> Result<FileScanner<'_, R, A>, FileError>
-        ensures refused { spec.IsKnown R.reads → spec.FileFaults R.reads result
+        ensures refused { spec.AreKnown R.reads → spec.FileFaults R.reads result
             (spec.fault_of (spec.load_at_result (spec.body_of self.now.bytes) 0 spec.Data)) }
         // It yields what a scan of the table in memory yields.
-        ensures left { spec.IsKnown R.reads → IfOk result (λ s. spec.scan_left s ≡
+        ensures left { spec.AreKnown R.reads → IfOk result (λ s. spec.scan_left s ≡
             spec.scan_results (spec.body_of self.now.bytes) self.now.parts.facts.data_block_count
             self.now.global_seqno) }
         // On bytes that store a list it yields the list, global seqno applied.
-        ensures list { spec.IsKnown R.reads →
+        ensures list { spec.AreKnown R.reads →
             (es : List spec.Entry) → spec.StoresList self.now.bytes es → 0 < length es →
             IfOk result (λ s. spec.scan_left s ≡
             spec.ok_results (spec.lift es self.now.global_seqno)) }
@@ -124,13 +124,13 @@ impl<R: ReadAt, A: Allocator + Clone> FileScanner<'_, R, A> {
     /// [`Error::SeqNoOverflow`]: sst_blocks::Error::SeqNoOverflow
     /// [`Error::OutOfMemory`]: sst_blocks::Error::OutOfMemory
     pub fn advance(&mut self) -> Result<bool, FileError>
-        ensures returned { spec.IsKnown R.reads →
+        ensures returned { spec.AreKnown R.reads →
             spec.FileGives R.reads (λ (_ : Bool). self.new.lent) result
             (spec.next_of (spec.scan_left self.old)) }
-        ensures left { spec.IsKnown R.reads →
+        ensures left { spec.AreKnown R.reads →
             OnOk result (spec.scan_left self.new ≡ spec.rest_of (spec.scan_left self.old)) }
         // It loads the blocks up to the next entry.
-        ensures counted { spec.IsKnown R.reads → OnOk result
+        ensures counted { spec.AreKnown R.reads → OnOk result
             (self.new.opened ≡ spec.loads (spec.loads_of self.old) self.old.opened) }
         ensures more { IfOk result (λ more. more ≡ is_some self.new.lent) }
         ensures ended { OnErr result (spec.IsEndedScan self.new) }
@@ -199,7 +199,7 @@ impl<R: ReadAt, A: Allocator + Clone> FileScanner<'_, R, A> {
     /// Loads the next block. An error ends the scan.
     fn next_block(&mut self) -> Result<(), FileError>
         requires { 0 < self.old.blocks }
-        ensures returned { spec.IsKnown R.reads →
+        ensures returned { spec.AreKnown R.reads →
             spec.FileGives R.reads (λ (_ : _). (self.new.entries, self.new.position)) result
             (spec.block_result self.old.body self.old.position) }
         ensures ok { OnOk result (self.new ≡ record self.old {

@@ -29,13 +29,13 @@ impl<R: ReadAt, A: Allocator> Model for FileTable<R, A> {
     ghost use Rattle.std.specs.Prelude.{◌≡◌, length};
     ghost use Rattle.sst_blocks.specs.Sections.{body_of};
     ghost use Rattle.lsm_readers.specs.point.Table.{IsRecovered, OpenTable, table_of};
-    ghost use Rattle.lsm_files.specs.Reads.{IsKnown};
+    ghost use Rattle.lsm_files.specs.Reads.{AreKnown};
 
     ghost Value = { OpenTable };
 
     ghost view = { λ t. table_of (R.bytes t.file) t.inner };
 
-    ghost invariant = { λ t. IsKnown R.reads →
+    ghost invariant = { λ t. AreKnown R.reads →
         (t.body_len ≡ length (body_of (R.bytes t.file))) ×
         IsRecovered (table_of (R.bytes t.file) t.inner) };
 }
@@ -61,7 +61,7 @@ impl<R: ReadAt + Drop, A: Allocator + Clone> FileTable<R, A> {
         pin_filter: bool,
         pin_index: bool,
     ) -> Result<FileTable<R, A>, FileError>
-        ensures returned { spec.IsKnown R.reads →
+        ensures returned { spec.AreKnown R.reads →
             spec.FileGives R.reads (λ (t : spec.OpenTable). t.parts) result
             (spec.recovered_result (R.bytes file) global_seqno pin_filter pin_index) }
         ensures bytes { IfOk result (λ t. t.bytes ≡ R.bytes file) }
@@ -98,24 +98,22 @@ impl<R: ReadAt + Drop, A: Allocator + Clone> FileTable<R, A> {
         key_hash: u64,
     ) -> (Result<Option<InternalValue<A>>, FileError>, Opened)
         requires { key_hash ≡ spec.hash_of key.now }
-        ensures returned { spec.IsKnown R.reads →
+        ensures returned { spec.AreKnown R.reads →
             spec.FileGives R.reads (λ (found : Option spec.Entry). found) result.0
             (spec.table_answer self.now key.now seqno).returned }
         // If no block is loaded, the read does not fail.
-        ensures calm { spec.IsKnown R.reads →
+        ensures calm { spec.AreKnown R.reads →
             (spec.table_answer self.now key.now seqno).loads ≡ [] → IsOk result.0 }
         // It makes the loads of that read. If a read of the file fails, it makes a part of them.
         ensures opened { let loads = (spec.table_answer self.now key.now seqno).loads in
-            spec.IsKnown R.reads →
+            spec.AreKnown R.reads →
             spec.Opens (spec.failure_as_memory result.0) loads spec.none_opened result.1 }
-        ensures few { spec.IsKnown R.reads →
+        ensures few { spec.AreKnown R.reads →
             spec.LoadsFew self.now.parts spec.none_opened result.1 }
         // On bytes that store a list it is the newest visible version in the list, global seqno
         // applied.
-        ensures list { spec.IsKnown R.reads →
-            (es : List spec.Entry) → spec.StoresList self.now.bytes es →
-            let found = spec.point (spec.lift es self.now.global_seqno) key.now seqno in
-            spec.FileGives R.reads (λ (x : Option spec.Entry). x) result.0 (Ok found) }
+        ensures list { spec.AreKnown R.reads →
+            spec.FileFindsInList R.reads self.now key.now seqno result.0 }
     {
         let mut source = FileBlocks::new(&self.file, &self.alloc, self.body_len);
         let found = point_in(&mut source, &self.inner, key, seqno, key_hash);
@@ -142,15 +140,13 @@ impl<R: ReadAt + Drop, A: Allocator + Clone> FileTable<R, A> {
         key_hash: u64,
     ) -> Result<Option<InternalValue<A>>, FileError>
         requires { key_hash ≡ spec.hash_of key.now }
-        ensures returned { spec.IsKnown R.reads →
+        ensures returned { spec.AreKnown R.reads →
             spec.FileGives R.reads (λ (found : Option spec.Entry). found) result
             (spec.table_answer self.now key.now seqno).returned }
-        ensures calm { spec.IsKnown R.reads →
+        ensures calm { spec.AreKnown R.reads →
             (spec.table_answer self.now key.now seqno).loads ≡ [] → IsOk result }
-        ensures list { spec.IsKnown R.reads →
-            (es : List spec.Entry) → spec.StoresList self.now.bytes es →
-            let found = spec.point (spec.lift es self.now.global_seqno) key.now seqno in
-            spec.FileGives R.reads (λ (x : Option spec.Entry). x) result (Ok found) }
+        ensures list { spec.AreKnown R.reads →
+            spec.FileFindsInList R.reads self.now key.now seqno result }
     {
         self.get_counted(key, seqno, key_hash).0
     }
@@ -173,8 +169,8 @@ fn read_inner<R: ReadAt, A: Allocator + Clone>(
     tree_id: TreeId,
     pins: (bool, bool),
 ) -> Result<Inner<A>, FileError>
-    requires { spec.IsKnown R.reads → spec.IsTocOf (R.bytes file.now) toc.0.now toc.1 }
-    ensures returned { spec.IsKnown R.reads → spec.FileGives R.reads spec.parts_of result
+    requires { spec.AreKnown R.reads → spec.IsTocOf (R.bytes file.now) toc.0.now toc.1 }
+    ensures returned { spec.AreKnown R.reads → spec.FileGives R.reads spec.parts_of result
         (spec.parts_result (R.bytes file.now) global_seqno pins.0 pins.1) }
     ensures number { IfOk result (λ inner. inner.global_seqno ≡ global_seqno) }
     ensures tree { IfOk result (λ inner. inner.tree_id ≡ tree_id) }

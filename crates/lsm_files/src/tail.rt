@@ -15,7 +15,7 @@ struct Tail {
 
 /// Reads the last bytes of a file.
 fn read_tail<R: ReadAt>(file: &R) -> Result<Tail, FileError>
-    ensures read { spec.IsKnown R.reads →
+    ensures read { spec.AreKnown R.reads →
         IfOk result (λ tail. spec.IsTailOf (R.bytes file.now) tail) }
     ensures short { IfOk result (λ tail. tail.len ≤ spec.trailer_len) }
     ensures err { IfErr result (spec.IsFailure R.reads) }
@@ -34,9 +34,9 @@ fn read_tail<R: ReadAt>(file: &R) -> Result<Tail, FileError>
 
 /// Reads the table of contents of a file.
 pub(crate) fn read_toc<R: ReadAt>(file: &R) -> Result<(Toc, u64), FileError>
-    ensures toc { spec.IsKnown R.reads → IfOk result (λ read.
+    ensures toc { spec.AreKnown R.reads → IfOk result (λ read.
         spec.IsTocOf (R.bytes file.now) read.0 read.1) }
-    ensures fault { spec.IsKnown R.reads →
+    ensures fault { spec.AreKnown R.reads →
         IfErr result (spec.IsTrailerError R.reads (R.bytes file.now)) }
 {
     let tail = read_tail(file)?;
