@@ -1,5 +1,6 @@
 pub mod Recent
 pub mod Story
+pub mod Ranged
 pub mod Ids
 pub mod Closed
 pub mod Faulty

@@ -10,13 +10,13 @@ pub use Rattle.lsm_tables.specs.Words.{YieldsList, Entry, Gives, HasList, HaveAl
 pub use Rattle.lsm_tables.specs.Words.{HoldLists, HoldUnion, IsInOrder, IsLeastSize, IsStrict}
 pub use Rattle.lsm_tables.specs.Words.{IsWritable, OpenTable, Refuses, RunsHold, RunsHoldLists, SameTables}
 pub use Rattle.lsm_tables.specs.Words.{AreRunsInOrder, TableLists, each_run}
-pub use Rattle.lsm_tables.specs.Words.{StoresList, Tombstone, Value, all_shown, entry, entry_of_ref}
+pub use Rattle.lsm_tables.specs.Words.{StoresList, Tombstone, Value, entry, entry_of_ref}
 pub use Rattle.lsm_tables.specs.Words.{front_length, ids_behind, is_before, is_from, is_memory}
 pub use Rattle.lsm_tables.specs.Words.{is_to, is_weak}
-pub use Rattle.lsm_tables.specs.Words.{is_weak_kind, joined, kept_in, newest, nowhere}
-pub use Rattle.lsm_tables.specs.Words.{numbered_below, ok_results, range_of, read_place}
+pub use Rattle.lsm_tables.specs.Words.{is_weak_kind, joined, kept_in, nowhere}
+pub use Rattle.lsm_tables.specs.Words.{ok_results, range_of, read_place}
 pub use Rattle.lsm_tables.specs.Words.{recovered_result, rules_by, run_label, shown, single}
-pub use Rattle.lsm_tables.specs.Words.{sort_entries, tables_fault, union_in, within}
+pub use Rattle.lsm_tables.specs.Words.{tables_fault, union_in, within}
 unfoldable pub use Rattle.lsm_tables.specs.Words.{point}
 pub use Rattle.example_store.specs.Closed.{IsClosed, StoreLists, bytes_by_run, files_in}
 pub use Rattle.example_store.specs.Faulty.{IsFirstFault, IsOpenFault, NamesFile, NamesInRun}
@@ -29,9 +29,10 @@ pub use Rattle.example_store.specs.Story.{AreNumbered, AreOwnRuns, Holding, IsOw
 pub use Rattle.example_store.specs.Story.{IsOwnTable, IsStore, IsReported, OnRunLists, option_list}
 pub use Rattle.example_store.specs.Story.{put_fault, value_in}
 =======
+pub use Rattle.example_store.specs.Ranged.{OnHistory, OnPart, ShowsHistory, YieldsNewestAt}
 pub use Rattle.example_store.specs.Recent.{IsPut}
 pub use Rattle.example_store.specs.Story.{AreNumbered, Holding, IsOwn, IsOwnRun, IsOwnTable}
-pub use Rattle.example_store.specs.Story.{IsStore, IsReported, option_list, put_fault, range_in}
+pub use Rattle.example_store.specs.Story.{IsStore, IsReported, option_list, put_fault}
 pub use Rattle.example_store.specs.Story.{value_in}
 >>>>>>> d1da174d8921aaad1fc75cbaabd7a15e79c0c06e
 pub use Rattle.example_store.specs.declared.store.open.FileFault.TheVariants.{Unopened}

@@ -1,5 +1,5 @@
 //! Ranges of a store at a snapshot.
-ghost use Rattle.std.specs.Prelude.{◌≡◌, [], ◌∷◌, ◌≤◌, IfErr, IfOk, List};
+ghost use Rattle.std.specs.Prelude.{◌≡◌, [], ◌∷◌, IfErr, IfOk};
 ghost use Rattle.example_store.specs.Words as spec;
 ghost use Rattle.lsm_tables.specs.Words.{OutOfMemory};
 
@@ -38,16 +38,13 @@ impl<A: Allocator + Clone> Store<A> {
     ) -> Result<Range<'a, A>, Error>
         // At a snapshot that is kept, it shows what the history of writes says.
         ensures returned { let advances = ⟦<Range<'a, A> as Lending>⟧.advances in
-            (ws : List spec.Entry) → spec.IsReported self.now ws → self.now.oldest ≤ snapshot →
-            let said = spec.range_in ws bounds.0 bounds.1 snapshot in
-            IfOk result (λ s. (es : List spec.Entry) ×
-            spec.YieldsList advances spec.nowhere es s × (spec.all_shown es ≡ said)) }
+            spec.OnHistory self.now snapshot (λ ws. spec.ShowsHistory advances spec.nowhere ws
+            bounds.0 bounds.1 snapshot result) }
         // At any snapshot, it yields the entries of the memtable and of the tables' lists.
         ensures read { let advances = ⟦<Range<'a, A> as Lending>⟧.advances in
             (lists : spec.TableLists) → spec.RunsHoldLists self.now.runs lists →
-            let all = spec.union_in (spec.single self.now.recent ∷ lists) in
-            IfOk result (spec.YieldsList advances spec.nowhere (spec.newest
-            (spec.numbered_below snapshot (spec.within bounds.0 bounds.1 all)))) }
+            let all = spec.single self.now.recent ∷ lists in
+            spec.YieldsNewestAt advances spec.nowhere all bounds.0 bounds.1 snapshot result }
         ensures can { IfOk result (spec.CanLend ⟦<Range<'a, A> as Lending>⟧.advances
             ⟦<Range<'a, A> as Lending>⟧.can_advance) }
         ensures memory { IfErr result (λ e. e ≡ OutOfMemory) }
@@ -70,18 +67,14 @@ impl<A: Allocator + Clone> Store<A> {
         snapshot: SeqNo,
     ) -> Result<DoubleEndedRange<A>, Error>
         // At a snapshot that is kept, it shows what the history of writes says.
-        ensures returned { let gives = ⟦<DoubleEndedRange<A> as Iterator>⟧.next_gives in
-            let back_gives = ⟦<DoubleEndedRange<A> as DoubleEndedIterator>⟧.next_back_gives in
-            (ws : List spec.Entry) → spec.IsReported self.now ws → self.now.oldest ≤ snapshot →
-            let said = spec.range_in ws bounds.0 bounds.1 snapshot in
-            IfOk result (λ s. (es : List spec.Entry) ×
-            spec.YieldsList gives back_gives es s × (spec.all_shown es ≡ said)) }
+        ensures returned { let ends = ⟦<DoubleEndedRange<A> as DoubleEndedIterator>⟧ in
+            spec.OnHistory self.now snapshot (λ ws. spec.ShowsHistory ends.next_gives
+            ends.next_back_gives ws bounds.0 bounds.1 snapshot result) }
         // At any snapshot, it yields the entries of the memtable and of the tables' lists.
-        ensures read { let gives = ⟦<DoubleEndedRange<A> as Iterator>⟧.next_gives in
-            let back_gives = ⟦<DoubleEndedRange<A> as DoubleEndedIterator>⟧.next_back_gives in
+        ensures read { let ends = ⟦<DoubleEndedRange<A> as DoubleEndedIterator>⟧ in
             (lists : spec.TableLists) → spec.RunsHoldLists self.now.runs lists →
-            IfOk result (spec.YieldsList gives back_gives (spec.newest (spec.numbered_below snapshot
-            (spec.within bounds.0 bounds.1 (spec.union_in (spec.single self.now.recent ∷ lists)))))) }
+            let all = spec.single self.now.recent ∷ lists in spec.YieldsNewestAt ends.next_gives
+            ends.next_back_gives all bounds.0 bounds.1 snapshot result }
         ensures next { IfOk result (λ s. ⟦<DoubleEndedRange<A> as Iterator>⟧.can_next s) }
         ensures next_back { IfOk result (λ s.
             ⟦<DoubleEndedRange<A> as DoubleEndedIterator>⟧.can_next_back s) }
@@ -102,12 +95,9 @@ fn lend_beside<L: Lending + Drop, A: Allocator + Clone>(
     snapshot: SeqNo,
 ) -> Result<LentNewestOfSourcesAt<L, A>, Error>
     ensures list { let advances = ⟦<LentNewestOfSourcesAt<L, A> as Lending>⟧.advances in
-        (lists : spec.TableLists) → spec.RunsHold runs.now lists → (es : List spec.Entry) →
-        spec.IsStrict es →
-        spec.YieldsList L.advances spec.nowhere (spec.within bounds.0 bounds.1 es) source →
-        let all = spec.union_in (spec.single es ∷ lists) in
-        IfOk result (spec.YieldsList advances spec.nowhere (spec.newest
-        (spec.numbered_below snapshot (spec.within bounds.0 bounds.1 all)))) }
+        spec.OnPart runs.now (λ es. spec.YieldsList L.advances spec.nowhere
+        (spec.within bounds.0 bounds.1 es) source) (λ all. spec.YieldsNewestAt advances spec.nowhere
+        all bounds.0 bounds.1 snapshot result) }
     ensures can { spec.CanLend L.advances L.can_advance source →
         IfOk result (spec.CanLend ⟦<LentNewestOfSourcesAt<L, A> as Lending>⟧.advances
         ⟦<LentNewestOfSourcesAt<L, A> as Lending>⟧.can_advance) }
@@ -126,13 +116,10 @@ fn range_beside<S: DoubleEndedIterator<Item = IterItem<A>> + Drop, A: Allocator 
     bounds: (Bound<UserKey<A>>, Bound<UserKey<A>>),
     snapshot: SeqNo,
 ) -> Result<NewestOfSourcesAt<S, A>, Error>
-    ensures list { let gives = ⟦<NewestOfSourcesAt<S, A> as Iterator>⟧.next_gives in
-        let back_gives = ⟦<NewestOfSourcesAt<S, A> as DoubleEndedIterator>⟧.next_back_gives in
-        (lists : spec.TableLists) → spec.RunsHold runs.now lists → (es : List spec.Entry) →
-        spec.IsStrict es → IfOk source (spec.YieldsList S.next_gives S.next_back_gives
-        (spec.within bounds.0 bounds.1 es)) → IfOk result (spec.YieldsList gives back_gives
-        (spec.newest (spec.numbered_below snapshot (spec.within bounds.0 bounds.1
-        (spec.union_in (spec.single es ∷ lists)))))) }
+    ensures list { let ends = ⟦<NewestOfSourcesAt<S, A> as DoubleEndedIterator>⟧ in
+        spec.OnPart runs.now (λ es. IfOk source (spec.YieldsList S.next_gives S.next_back_gives
+        (spec.within bounds.0 bounds.1 es))) (λ all. spec.YieldsNewestAt ends.next_gives
+        ends.next_back_gives all bounds.0 bounds.1 snapshot result) }
     ensures next { IfOk source
         (spec.CanYield S.next_gives S.next_back_gives S.can_next S.can_next_back) →
         IfOk source (λ s. spec.IsFinite (S.remaining s)) →
