@@ -8,7 +8,7 @@ use lsm_tables::run::{
 use sst_blocks::{Error, InternalValue, IterItem, Lending, SeqNo, ValueType};
 use std::alloc::{Allocator, Global};
 use std::ops::Bound;
-use test_support::lent::go_on;
+use test_support::go_on;
 use test_support::samples::rows::{Row, entry};
 use test_support::samples::runs::{ALL, Bounds, Lists, owned_range, runs_of};
 
