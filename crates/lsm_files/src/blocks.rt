@@ -9,7 +9,8 @@ use std::alloc::{Allocator, Global};
 use std::io;
 use std::marker::Model;
 
-/// A source that reads each block from a file when it is loaded.
+/// A source that reads each block from a file when it is loaded. Calls of `FileTable` make it; there
+/// is no other way.
 ///
 /// A load whose read fails reports [`Error::OutOfMemory`], and the source keeps the system's error.
 /// [`FileBlocks::result`] returns that error in place of the other.

@@ -41,10 +41,10 @@ impl<R: ReadAt, A: Allocator> Model for FileTable<R, A> {
 }
 
 impl<R: ReadAt + Drop, A: Allocator + Clone> FileTable<R, A> {
-    /// Opens a table in its file.
+    /// Opens a table in its file, with the arguments of [`Table::recover`].
     ///
     /// It reads the trailer, the meta block and the blocks to pin, whatever the file's size. The
-    /// arguments are those of [`Table::recover`].
+    /// checksum is stored, and compared with nothing.
     ///
     /// # Errors
     ///
