@@ -23,18 +23,11 @@ pub use Rattle.example_store.specs.Faulty.{IsFirstFault, IsOpenFault, NamesFile,
 pub use Rattle.example_store.specs.Ids.{AreAllCut, AreMadeOf, FailsToFlush, FailsToWrite}
 pub use Rattle.example_store.specs.Ids.{HasFlushed, IsTakenIn, StaysOrFlushes}
 pub use Rattle.example_store.specs.Part.{IsPartKept, front_runs, part_runs}
-<<<<<<< HEAD
+pub use Rattle.example_store.specs.Ranged.{OnHistory, OnPart, ShowsHistory, YieldsNewestAt}
 pub use Rattle.example_store.specs.Recent.{IsPut, YieldsPart}
 pub use Rattle.example_store.specs.Story.{AreNumbered, AreOwnRuns, Holding, IsOwn, IsOwnRun}
 pub use Rattle.example_store.specs.Story.{IsOwnTable, IsStore, IsReported, OnRunLists, option_list}
 pub use Rattle.example_store.specs.Story.{put_fault, value_in}
-=======
-pub use Rattle.example_store.specs.Ranged.{OnHistory, OnPart, ShowsHistory, YieldsNewestAt}
-pub use Rattle.example_store.specs.Recent.{IsPut}
-pub use Rattle.example_store.specs.Story.{AreNumbered, Holding, IsOwn, IsOwnRun, IsOwnTable}
-pub use Rattle.example_store.specs.Story.{IsStore, IsReported, option_list, put_fault}
-pub use Rattle.example_store.specs.Story.{value_in}
->>>>>>> d1da174d8921aaad1fc75cbaabd7a15e79c0c06e
 pub use Rattle.example_store.specs.declared.store.open.FileFault.TheVariants.{Unopened}
 pub use Rattle.example_store.specs.declared.store.open.OpenError.TheVariants.{File, NoFile}
 pub use Rattle.example_store.specs.declared.store.open.OpenError.TheVariants.{OldestTooHigh}

@@ -42,9 +42,8 @@ impl<A: Allocator + Clone> Store<A> {
             bounds.0 bounds.1 snapshot result) }
         // At any snapshot, it yields the entries of the memtable and of the tables' lists.
         ensures read { let advances = ⟦<Range<'a, A> as Lending>⟧.advances in
-            (lists : spec.TableLists) → spec.RunsHoldLists self.now.runs lists →
-            let all = spec.single self.now.recent ∷ lists in
-            spec.YieldsNewestAt advances spec.nowhere all bounds.0 bounds.1 snapshot result }
+            spec.OnRunLists self.now.runs (λ lists. spec.YieldsNewestAt advances spec.nowhere
+            (spec.single self.now.recent ∷ lists) bounds.0 bounds.1 snapshot result) }
         ensures can { IfOk result (spec.CanLend ⟦<Range<'a, A> as Lending>⟧.advances
             ⟦<Range<'a, A> as Lending>⟧.can_advance) }
         ensures memory { IfErr result (λ e. e ≡ OutOfMemory) }
@@ -72,9 +71,9 @@ impl<A: Allocator + Clone> Store<A> {
             ends.next_back_gives ws bounds.0 bounds.1 snapshot result) }
         // At any snapshot, it yields the entries of the memtable and of the tables' lists.
         ensures read { let ends = ⟦<DoubleEndedRange<A> as DoubleEndedIterator>⟧ in
-            (lists : spec.TableLists) → spec.RunsHoldLists self.now.runs lists →
-            let all = spec.single self.now.recent ∷ lists in spec.YieldsNewestAt ends.next_gives
-            ends.next_back_gives all bounds.0 bounds.1 snapshot result }
+            spec.OnRunLists self.now.runs (λ lists. spec.YieldsNewestAt ends.next_gives
+            ends.next_back_gives (spec.single self.now.recent ∷ lists) bounds.0 bounds.1 snapshot
+            result) }
         ensures next { IfOk result (λ s. ⟦<DoubleEndedRange<A> as Iterator>⟧.can_next s) }
         ensures next_back { IfOk result (λ s.
             ⟦<DoubleEndedRange<A> as DoubleEndedIterator>⟧.can_next_back s) }
