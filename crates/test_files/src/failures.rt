@@ -1,7 +1,7 @@
 //! Files that shrink while they are open, and reads that fail: the system's error is returned.
 use crate::given::{Form, Row, bytes_of, finds, opened};
 use lsm_files::{FileError, ReadAt};
-use sst_blocks::Error;
+use sst_blocks::Slice;
 use std::alloc::Global;
 use std::cell::Cell;
 use std::io;
@@ -9,33 +9,35 @@ use std::io::ErrorKind;
 
 // The bytes of a table, as a file that can shrink and whose reads can fail.
 #[derive(Drop)]
-struct Faulty<'a> {
-    bytes: &'a [u8],
+struct Faulty {
+    bytes: Slice,
     // The number of bytes that are left.
     len: Cell<usize>,
     // The number of reads before one fails.
     calm: Cell<u64>,
 }
 
-impl<'a> Faulty<'a> {
-    fn new(bytes: &'a [u8], calm: u64) -> Faulty<'a> {
+impl Faulty {
+    fn new(bytes: Slice, calm: u64) -> Faulty {
+        let len = Cell::new(bytes.len());
         Faulty {
             bytes,
-            len: Cell::new(bytes.len()),
+            len,
             calm: Cell::new(calm),
         }
     }
 
     // The bytes that are left.
-    fn left(&self) -> &'a [u8] {
-        match self.bytes.get(..self.len.get()) {
+    fn left(&self) -> &[u8] {
+        let bytes = self.bytes.as_slice();
+        match bytes.get(..self.len.get()) {
             Some(left) => left,
-            None => self.bytes,
+            None => bytes,
         }
     }
 }
 
-impl ReadAt for &Faulty<'_> {
+impl ReadAt for &Faulty {
     ghost use Rattle.std.specs.Prelude.{[]};
     ghost use Rattle.lsm_files.specs.Reads.{unknown};
 
@@ -44,12 +46,12 @@ impl ReadAt for &Faulty<'_> {
     ghost bytes = { λ _. [] };
 
     fn len(&self) -> io::Result<u64> {
-        let file: &Faulty<'_> = self;
+        let file: &Faulty = self;
         Ok(file.left().len() as u64)
     }
 
     fn read_exact_at(&self, buf: &mut [u8], offset: u64) -> io::Result<()> {
-        let file: &Faulty<'_> = self;
+        let file: &Faulty = self;
         let calm = file.calm.get();
         if calm == 0 {
             return Err(io::Error::from(ErrorKind::TimedOut));
@@ -71,7 +73,7 @@ fn kind_of(read: Result<bool, FileError>) -> Option<ErrorKind> {
 const LAST: Row = (b"plum", 1, b"blue");
 
 // Opens a table and reads its last row.
-fn read(alloc: Global, file: &Faulty<'_>) -> Result<bool, FileError> {
+fn read(alloc: Global, file: &Faulty) -> Result<bool, FileError> {
     let table = opened(alloc, file, (false, false))?;
     finds(&table, LAST.0, 2, Some(&LAST))
 }
@@ -79,7 +81,7 @@ fn read(alloc: Global, file: &Faulty<'_>) -> Result<bool, FileError> {
 // The result of the reads with one of them failing.
 fn read_with(alloc: Global, calm: u64) -> Result<bool, FileError> {
     let bytes = bytes_of(alloc, Form::Whole)?;
-    read(alloc, &Faulty::new(bytes.as_slice(), calm))
+    read(alloc, &Faulty::new(bytes, calm))
 }
 
 // The trailer, the meta block, the filter, the index and a data block are read.
@@ -95,7 +97,7 @@ fn each_read_fails_in_turn(rt: HostRuntime) {
 // Reads the last row of a table that shrinks to some length once it is open.
 fn read_shrunk(alloc: Global, len: usize) -> Result<bool, FileError> {
     let bytes = bytes_of(alloc, Form::Whole)?;
-    let file = Faulty::new(bytes.as_slice(), u64::MAX);
+    let file = Faulty::new(bytes, u64::MAX);
     let table = opened(alloc, &file, (true, true))?;
     file.len.set(len);
     finds(&table, LAST.0, 2, Some(&LAST))
