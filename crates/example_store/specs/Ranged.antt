@@ -3,8 +3,9 @@ use Rattle.std.specs.Prelude.{◌≡◌, ◌∷◌, ◌≤◌, ℕ, IfOk, List, 
 use Rattle.std.specs.declared.ops.Bound.{Bound}
 use Rattle.std.specs.declared.sync.Arc.{Arc}
 use Rattle.lsm_tables.specs.Words.{Entry, Error, IsStrict, OnLists, OpenTable, TableLists, YieldsList}
-use Rattle.lsm_tables.specs.Words.{all_shown, newest, numbered_below, single, union_in, within}
-use Rattle.example_store.specs.Story.{Holding, IsReported, range_in}
+use Rattle.lsm_tables.specs.Words.{all_shown, newest, numbered_below, single, sort_entries}
+use Rattle.lsm_tables.specs.Words.{union_in, within}
+use Rattle.example_store.specs.Story.{Holding, IsReported}
 
 -- this holds of any history that a store reads as, at a snapshot that is kept
 abbrev pub OnHistory : Holding → ℕ → (List Entry → Type 0) → Type 0
@@ -16,8 +17,9 @@ module _ {S : Type 0} (front back : S → Option (Result Entry Error) → S → 
   abbrev pub ShowsHistory : List Entry → Bound (List ℕ) → Bound (List ℕ) → ℕ → Result S Error
       → Type 0
   ShowsHistory ws low high snapshot r =
+      let said = newest (numbered_below snapshot (within low high (sort_entries ws))) in
       IfOk r (λ s. (es : List Entry) × YieldsList front back es s
-      × (all_shown es ≡ range_in ws low high snapshot))
+      × (all_shown es ≡ all_shown said))
 
   -- a call returned a source of the newest versions below a seqno of some lists' entries within the
   -- bounds

@@ -5,10 +5,7 @@ use Rattle.std.specs.List.{AllByRecursion}
 use Rattle.std.specs.Option.{option_map}
 use Rattle.lsm_tables.specs.Words.{AreCompactable, Entry, Error, HoldsList, IsInOrder, KeyTooLong}
 use Rattle.lsm_tables.specs.Words.{OpenTable, RunsHoldLists, SeqNoOverflow, ValueTooLong, range_of}
-use Rattle.lsm_tables.specs.Words.{all_shown, is_weak, newest, numbered_below, seen, sort_entries}
-use Rattle.lsm_tables.specs.Words.{union_in, within}
-use Rattle.std.specs.declared.ops.Bound.{Bound}
-use Rattle.sst_entries.specs.declared.value_type.ValueType.{ValueType}
+use Rattle.lsm_tables.specs.Words.{is_weak, seen, union_in}
 
 -- the state of a store: the entries in no table yet, the tables of its runs, the counter of their
 -- ids, and their target size. Also the seqno of the next write, the lower bound of the former
@@ -98,12 +95,6 @@ pub record IsReported (s : Holding) (ws : List Entry) : Type 0 where
 -- the value of a key at a snapshot; none if it was deleted last, or never written
 abbrev pub value_in : List Entry → List ℕ → ℕ → Option (List ℕ)
 value_in ws key bound = option_map (λ v. v.1) (seen ws key bound)
-
--- the keys within bounds that have a value at a snapshot, in order, each with its kind and value
-abbrev pub range_in : List Entry → Bound (List ℕ) → Bound (List ℕ) → ℕ
-    → List (List ℕ × ValueType × List ℕ)
-range_in ws low high bound =
-    all_shown (newest (numbered_below bound (within low high (sort_entries ws))))
 
 -- the error of a write with this seqno: its key or its value is longer than a table takes, or no
 -- seqno is left after it

@@ -40,8 +40,8 @@ impl<R: ReadAt + Drop, A: Allocator + Clone> FileTable<R, A> {
     ///
     /// # Errors
     ///
-    /// The error of the earliest query that has one, or [`Error::OutOfMemory`]. No result is
-    /// returned then.
+    /// The error of the earliest query that has one, [`Error::OutOfMemory`], or [`FileError::Io`]
+    /// if a read fails. No result is returned then.
     pub fn get_many(
         &self,
         queries: &[Query<A>],

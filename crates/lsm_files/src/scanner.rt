@@ -11,9 +11,10 @@ use std::alloc::{Allocator, Global};
 use std::marker::Model;
 use std::mem;
 
-/// A pass over all entries of a table in its file, which reads each data block once, in file order.
+/// A pass over all entries of a table in its file, block by block in file order.
 ///
-/// It reads up to 256 KiB of neighbouring blocks at once. [`FileScanner::entry`] borrows each entry
+/// It reads 256 KiB of neighbouring blocks at once, or one larger block. A block that begins there
+/// and does not end is read again with the next ones. [`FileScanner::entry`] borrows each entry
 /// from its block. After any error the scanner is exhausted.
 #[derive(Drop)]
 pub struct FileScanner<'a, R: ReadAt, A: Allocator = Global> {

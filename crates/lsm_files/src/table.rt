@@ -49,9 +49,10 @@ impl<R: ReadAt + Drop, A: Allocator + Clone> FileTable<R, A> {
     /// # Errors
     ///
     /// Fails with [`FileError::Io`] if a read fails. The other errors are those of
-    /// [`Table::recover`], in the same order.
+    /// [`Table::recover`], in the same order, but [`Error::OutOfMemory`] can hide any of them.
     ///
     /// [`Table::recover`]: lsm_readers::Table::recover
+    /// [`Error::OutOfMemory`]: sst_blocks::Error::OutOfMemory
     pub fn open(
         alloc: A,
         file: R,

@@ -80,9 +80,13 @@ fn lending_sources<R: Drop, L: Drop, A: Allocator>(
 /// bounds, of several runs and further lending sources, ascending.
 ///
 /// Each source must lend only its entries within the bounds, in order: the call does not cut
-/// sources. [`crate::lend_entries`] makes one of a slice. It lends the entries that
-/// [`crate::range_sources_at`] yields from the front. A tombstone is yielded as an entry. No table
-/// is opened yet.
+/// sources. [`crate::lend_entries_within`] makes one of a sorted slice. Without an error it lends
+/// the entries that [`crate::range_sources_at`] yields from the front. A tombstone is yielded as an
+/// entry. If a source and a run have an entry of the same key, seqno and kind, the source's entry
+/// comes first.
+///
+/// No table is opened yet. The error of a source or a run comes right after the entry that precedes
+/// it there. The stream then ends.
 ///
 /// # Errors
 ///

@@ -42,7 +42,8 @@ fn all_sources<R: Drop, S: Drop, A: Allocator>(
 /// entry comes first.
 ///
 /// No table is opened yet. If a table cannot be opened or read, the stream yields that error in
-/// place of all remaining entries, also those of other runs.
+/// place of all remaining entries, also those of other runs. Only an entry that was already read at
+/// the other end may still come.
 ///
 /// # Errors
 ///
