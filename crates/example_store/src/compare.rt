@@ -169,18 +169,14 @@ fn compare_below<S: DoubleEndedIterator<Item = IterItem<A>> + Drop, A: Allocator
     compare_newest(items, rows)
 }
 
-// Compares all that a store has at a snapshot, from the front. Generic in the allocator: with a
-// concrete one a proof unfolds more of each part.
-fn compare_front<A: Allocator + Clone>(
-    store: &Store<A>,
-    rows: &[(u32, u32)],
-    snapshot: SeqNo,
-) -> Result<Count, Error> {
+// Compares all that a store has at a snapshot, from the front.
+fn compare_front(store: &Store, rows: &[(u32, u32)], snapshot: SeqNo) -> Result<Count, Error> {
     let all = (Bound::Unbounded, Bound::Unbounded);
     compare_lent(store.range(all, snapshot)?, rows)
 }
 
-// The same from the back.
+// Compares all that a store has at a snapshot, from the back. Generic in the allocator: with a
+// concrete one a proof unfolds more of each part.
 fn compare_back<A: Allocator + Clone>(
     store: &Store<A>,
     rows: &[(u32, u32)],
