@@ -9,7 +9,7 @@ use std::ops::Bound;
 
 /// A lending source of the entries of a slice, such as a memtable's entries within some bounds.
 ///
-/// It lends each entry from the slice, in the slice's order. It has no errors, and does not allocate.
+/// It lends each entry from the slice, in order. It has no errors and does not allocate.
 #[derive(Drop)]
 pub struct LentEntries<'a, A: Allocator = Global> {
     rest: &'a [InternalValue<A>],
@@ -43,8 +43,8 @@ pub fn lend_entries<'a, A: Allocator>(items: &'a [InternalValue<A>]) -> LentEntr
 
 /// Returns a lending source of the entries of a slice whose keys are within both bounds.
 ///
-/// The slice must be in order: keys ascending, and the newest version of a key first. Binary
-/// searches find the first and the last entry.
+/// The slice must be in order: keys ascending, the newest version of a key first, and no sequence
+/// number twice for a key. Binary searches find the first and the last entry.
 pub fn lend_entries_within<'a, A: Allocator>(
     items: &'a [InternalValue<A>],
     range: &(Bound<UserKey<A>>, Bound<UserKey<A>>),

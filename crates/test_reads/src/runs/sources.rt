@@ -114,7 +114,7 @@ fn codes_lent<L: Lending + Drop>(mut items: L) -> Result<u64, Error>
     Ok(all)
 }
 
-// The same of newest versions. It is generic like `codes_of`.
+// The codes of the newest versions that are lent. It is generic like `codes_of`.
 fn codes_lent_of<L: Lending + Drop>(items: LentNewestOf<L, Global>) -> Result<u64, Error>
     requires { spec.CanYield ⟦<LentNewestOf<L, Global> as Lending>⟧.advances spec.nowhere
         ⟦<LentNewestOf<L, Global> as Lending>⟧.can_advance
