@@ -8,11 +8,13 @@ use lsm_readers::{Inner, point_in, recover_in};
 use sst_blocks::{Builder, Checksum, InternalValue, Opened, SeqNo, Toc, TreeId};
 use std::alloc::{Allocator, Global};
 use std::marker::Model;
+use std::ops::Deref;
 
 /// An open table that stays in its file.
 ///
 /// [`FileTable::open`] reads the trailer, the meta block and the blocks to pin. Each later call
-/// reads the blocks that it needs. Contracts see the table that [`Table::recover`] opens from the
+/// reads the blocks that it needs. It dereferences to [`Inner`], whose fields have the table's id,
+/// metadata and sections. Contracts see the table that [`Table::recover`] opens from the
 /// same bytes, where these are known.
 ///
 /// [`Table::recover`]: lsm_readers::Table::recover
@@ -38,6 +40,20 @@ impl<R: ReadAt, A: Allocator> Model for FileTable<R, A> {
     ghost invariant = { λ t. AreKnown R.reads →
         (t.body_len ≡ length (body_of (R.bytes t.file))) ×
         IsRecovered (table_of (R.bytes t.file) t.inner) };
+}
+
+impl<R: ReadAt, A: Allocator> Deref for FileTable<R, A> {
+    ghost use Rattle.std.specs.Prelude.{◌≡◌};
+    ghost use Rattle.lsm_readers.specs.point.Table.{table_of};
+
+    type Target = Inner<A>;
+
+    // The bytes and the inner state make up the table.
+    ghost deref_gives = { λ t inner. table_of t.bytes inner ≡ t };
+
+    fn deref(&self) -> &Inner<A> {
+        &self.inner
+    }
 }
 
 impl<R: ReadAt + Drop, A: Allocator + Clone> FileTable<R, A> {
