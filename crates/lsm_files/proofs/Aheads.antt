@@ -14,14 +14,14 @@ use Rattle.sst_blocks.specs.Sections.{body_of}
 use Rattle.sst_blocks.proofs.LoadLemmas.{decode_part}
 use Rattle.lsm_files.specs.declared.error.FileError.{FileError}
 use Rattle.lsm_files.specs.declared.error.FileError.TheVariants.{Io, Table}
-use Rattle.lsm_files.specs.Reads.{IsPartAt, Reads, whole}
+use Rattle.lsm_files.specs.Reads.{IsPartAt, ByteAccess, whole}
 use Rattle.lsm_files.specs.Results.{FileGives, IsReadError}
 use Rattle.lsm_files.specs.Tail.{IsPartError}
 use Rattle.lsm_files.proofs.Parts.{part_of_body, range_length}
 use Rattle.lsm_files.proofs.Headed.{fails_by_head, loads_by_size, past_by_size}
 
 -- bytes that could not be read
-module _ {X Y : Type 0} (reads : Reads) (view : X → Y) (len end : ℕ) (returned : Result Y Error)
+module _ {X Y : Type 0} (reads : ByteAccess) (view : X → Y) (len end : ℕ) (returned : Result Y Error)
     (short : len < end → returned ≡ Err Truncated) where
   part_error : (e : FileError) → IsPartError reads len end e → FileGives reads view (Err e) returned
   part_error (Io f) may = may
@@ -120,13 +120,13 @@ module _ (body : List ℕ) (position : ℕ) (kind : BlockType) (head seen : List
 body_within : (bytes : List ℕ) → length (body_of bytes) ≤ length bytes
 body_within bytes = omega (arith, length-take (length bytes - 120) bytes)
 
-wants : (reads : Reads) (len end : ℕ) (e : Error) → e ≡ OutOfMemory
+wants : (reads : ByteAccess) (len end : ℕ) (e : Error) → e ≡ OutOfMemory
     → IsPartError reads len end (Table e)
 wants reads len end e is = λ memory.
     absurd (let wrong : true ≡ false = ap is_memory (sym is) ∙ memory in cc)
 
 -- a read within the bytes failed
-read_part : (reads : Reads) (bytes : List ℕ) (stop len end : ℕ) (e : FileError)
+read_part : (reads : ByteAccess) (bytes : List ℕ) (stop len end : ℕ) (e : FileError)
     → stop ≤ length (body_of bytes) → IsReadError reads (length bytes) stop e
     → IsPartError reads len end e
 read_part reads bytes stop len end (Io f) within fails = elim fails [
@@ -135,7 +135,7 @@ read_part reads bytes stop len end (Io f) within fails = elim fails [
 ]
 read_part reads bytes stop len end (Table f) within is = wants reads len end f is
 
-pub part_read_error : {X : Type 0} (reads : Reads) (bytes : List ℕ) (stop len end : ℕ)
+pub part_read_error : {X : Type 0} (reads : ByteAccess) (bytes : List ℕ) (stop len end : ℕ)
     (r : Result X FileError) (e : FileError) → IsErrAnd r (λ y. y ≡ e)
     → stop ≤ length (body_of bytes) → IsReadError reads (length bytes) stop e
     → IfErr r (IsPartError reads len end)
@@ -144,27 +144,27 @@ part_read_error reads bytes stop len end r e is within fails =
     rw (p.1, p.2) (read_part reads bytes stop len end e within fails)
 
 -- memory ran out
-pub part_wants : {X : Type 0} (reads : Reads) (len end : ℕ) (r : Result X FileError) (e : Error)
+pub part_wants : {X : Type 0} (reads : ByteAccess) (len end : ℕ) (r : Result X FileError) (e : Error)
     → IsErrAnd r (λ y. y ≡ Table e) → e ≡ OutOfMemory → IfErr r (IsPartError reads len end)
 part_wants reads len end r e is wanted =
     let p = err_from_is_err_and r is in
     rw (p.1, p.2) (wants reads len end e wanted)
 
 -- the bytes end past the body
-pub part_short : (reads : Reads) (len end : ℕ) → len < end
+pub part_short : (reads : ByteAccess) (len end : ℕ) → len < end
     → IsPartError reads len end (Table Truncated)
 part_short reads len end past = λ _. (refl, past)
 
 -- ---- an error of decoding
 
-whole_error : {X Y Z : Type 0} (reads : Reads) (view : X → Z) (seen : Y → Z) (e : FileError)
+whole_error : {X Y Z : Type 0} (reads : ByteAccess) (view : X → Z) (seen : Y → Z) (e : FileError)
     (returned : Result Z Error) → FileGives {X = Y} whole seen (Err e) returned
     → FileGives {X = X} reads view (Err e) returned
 whole_error reads view seen (Io f) returned none = absurd none
 whole_error reads view seen (Table f) returned fails = fails
 
 -- the error of bytes in memory
-pub passed_whole : {X Y Z : Type 0} (reads : Reads) (view : X → Z) (seen : Y → Z)
+pub passed_whole : {X Y Z : Type 0} (reads : ByteAccess) (view : X → Z) (seen : Y → Z)
     (r : Result X FileError) (e : FileError) (returned : Result Z Error)
     → IsErrAnd r (λ y. y ≡ e) → FileGives {X = Y} whole seen (Err e) returned
     → FileGives reads view r returned

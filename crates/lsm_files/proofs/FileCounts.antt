@@ -1,5 +1,5 @@
 -- The blocks that a step of a scan of a table in its file loads.
-use Rattle.std.proofs.Common.{◌≡◌, ℕ, zero, suc, ◌+◌, ◌-◌, ◌<◌, Bool, true, false, List, [], ◌∷◌}
+use Rattle.std.proofs.Common.{◌≡◌, ℕ, zero, suc, ◌+◌, ◌-◌, ◌<◌, ◌≤◌, Bool, true, false, List, [], ◌∷◌}
 use Rattle.std.proofs.Common.{refl, sym, ap, subst, ◌∙◌, arith}
 use Rattle.std.specs.Prelude.{None, Result, Ok, Err}
 use Rattle.sst_entries.specs.declared.error.Error.{Error}
@@ -10,7 +10,7 @@ use Rattle.lsm_readers.specs.Scan.{Scan, block_result, lend_first, lend_next, li
 use Rattle.lsm_readers.specs.Scan.{loads_from, loads_of, scan_loads_behind, unlend, unless_left}
 use Rattle.lsm_files.specs.declared.error.FileError.{FileError}
 use Rattle.lsm_files.specs.declared.error.FileError.TheVariants.{Table}
-use Rattle.lsm_files.specs.Scan.{in_file}
+use Rattle.lsm_files.specs.Scan.{LoadsUpTo, in_file}
 
 -- From s a step has come to u, with the loads of the blocks between.
 pub record Counted (s u : Scan) : Type 0 where
@@ -114,3 +114,36 @@ pub over_counted : (s u t : Scan) → Counted s u → u.entries ≡ [] → t ≡
 over_counted s u t counted none is last =
     let blocks : u.blocks ≡ 0 = ap (λ (w : Scan). w.blocks) (sym is) ∙ not_some t.blocks last in
     all_loaded s u t counted (ap (λ (w : Scan). w.opened) is) (no_loads u none blocks)
+
+-- the next entry has an error
+pub stopped_counted : (s u t : Scan) (f : FileError) → Counted s u
+    → (Err f, t) ≡ in_file (lend_next u u.entries) → LoadsUpTo s t
+stopped_counted s u t f counted is =
+    let comes = subst (Comes u) (sym is) (comes_by u u.entries refl) in
+    record {
+      count = counted.count;
+      counts = comes.opened ∙ counted.counts;
+      most = omega (arith, counted.needs);
+    }
+
+-- the next block has an error, or could not be read
+pub block_counted : (s u t v : Scan) → Counted s u → u.entries ≡ [] → t ≡ unlend u → 0 < t.blocks
+    → v.opened ≡ with_load Data t.opened → LoadsUpTo s v
+block_counted s u t v counted none is some opened =
+    let blocks : u.blocks ≡ suc (t.blocks - 1) =
+    ap (λ (w : Scan). w.blocks) (sym is) ∙ omega (arith, some) in
+    let more = needs_first u (t.blocks - 1) none blocks in
+    record {
+      count = suc counted.count;
+      counts = opened ∙ ap (with_load Data) (ap (λ (w : Scan). w.opened) is ∙ counted.counts);
+      most = omega (arith, counted.needs, more);
+    }
+
+-- it is not so that no block is needed then
+pub block_needed : (s u t : Scan) → Counted s u → u.entries ≡ [] → t ≡ unlend u → 0 < t.blocks
+    → loads_of s ≡ 0 → ⊥
+block_needed s u t counted none is some calm =
+    let blocks : u.blocks ≡ suc (t.blocks - 1) =
+    ap (λ (w : Scan). w.blocks) (sym is) ∙ omega (arith, some) in
+    let more = needs_first u (t.blocks - 1) none blocks in
+    omega (arith, counted.needs, more, calm)

@@ -18,9 +18,9 @@ use Rattle.lsm_readers.specs.Scan.{lifted_result, scan_left, unlend}
 use Rattle.lsm_readers.proofs.Scans.{block_left, ended_left, entry_left}
 use Rattle.lsm_files.specs.declared.error.FileError.{FileError}
 use Rattle.lsm_files.specs.declared.error.FileError.TheVariants.{Io, Table}
-use Rattle.lsm_files.specs.Reads.{Reads}
+use Rattle.lsm_files.specs.Reads.{ByteAccess}
 use Rattle.lsm_files.specs.Results.{FileFaults, FileGives}
-use Rattle.lsm_files.specs.Scan.{in_file, next_of, rest_of}
+use Rattle.lsm_files.specs.Scan.{in_file, next_of, rest_of, table_error}
 
 abbrev answered : {X : Type 0} → X → Result X Error
 answered x = Ok x
@@ -62,11 +62,11 @@ module _ (u : Scan) where
 
 -- ---- a step within the block
 
-abbrev Step : Reads → Scan → Result Bool FileError × Scan → Type 0
+abbrev Step : ByteAccess → Scan → Result Bool FileError × Scan → Type 0
 Step reads u p = FileGives {X = Bool} reads (λ _. (p.1).lent) p.0 (next_of (scan_left u))
     × OnOk p.0 (scan_left p.1 ≡ rest_of (scan_left u))
 
-module _ (reads : Reads) (u : Scan) where
+module _ (reads : ByteAccess) (u : Scan) where
   first_came : (e : Entry) (es : List Entry) (one : Result Entry Error) → u.entries ≡ e ∷ es
       → lifted_result u.global_seqno e ≡ one → Step reads u (in_file (lend_first u es one))
   first_came e es (Ok x) some is =
@@ -87,6 +87,34 @@ module _ (reads : Reads) (u : Scan) where
   pub entry_came : (r : Result Bool FileError) (t : Scan)
       → (r, t) ≡ in_file (lend_next u u.entries) → (r ≡ Ok false → ⊥) → Step reads u (r, t)
   entry_came r t is some = came_by u.entries r t refl is some
+
+abbrev next_result : Scan → Result (Option Entry) FileError
+next_result u = table_error (next_of (scan_left u))
+
+module _ (u t : Scan) (f : FileError) where
+  exact_first : (e : Entry) (es : List Entry) (one : Result Entry Error) → u.entries ≡ e ∷ es
+      → lifted_result u.global_seqno e ≡ one → (Err f, t) ≡ in_file (lend_first u es one)
+      → next_result u ≡ Err f
+  exact_first e es (Ok x) some lifted is =
+      let wrong : ◌≡◌ {A = Result Bool FileError} (Err f) (Ok true) =
+      ap (λ (p : Result Bool FileError × Scan). p.0) is in absurd cc
+  exact_first e es (Err g) some lifted is =
+      let both : ◌≡◌ {A = Result Bool FileError} (Err f) (Err (Table g)) =
+      ap (λ (p : Result Bool FileError × Scan). p.0) is in
+      let same : f ≡ Table g = cc in
+      ap (λ (rs : List (Result Entry Error)). table_error (next_of rs))
+      (entry_err u e g es some lifted) ∙ ap (λ (x : FileError). Err x) (sym same)
+
+  exact_by : (es : List Entry) → u.entries ≡ es → (Err f, t) ≡ in_file (lend_next u es)
+      → next_result u ≡ Err f
+  exact_by [] none is =
+      let wrong : ◌≡◌ {A = Result Bool FileError} (Err f) (Ok false) =
+      ap (λ (p : Result Bool FileError × Scan). p.0) is in absurd cc
+  exact_by (e ∷ es) some is = exact_first e es (lifted_result u.global_seqno e) some refl is
+
+  -- the error of a step within the block is that of the next entry
+  pub exact_error : (Err f, t) ≡ in_file (lend_next u u.entries) → next_result u ≡ Err f
+  exact_error is = exact_by u.entries refl is
 
 none_by : (u : Scan) (es : List Entry) (r : Result Bool FileError) (t : Scan) → u.entries ≡ es
     → (r, t) ≡ in_file (lend_next u es) → r ≡ Ok false → (u.entries ≡ []) × (t ≡ unlend u)
@@ -157,7 +185,7 @@ on_block s u t v left none is some read next =
     ∙ ap (λ (w : Scan). scan_left w) is ∙ left
 
 -- it could not be read
-block_fails : {X Y : Type 0} (reads : Reads) (view : X → List Entry × ℕ) (seen : Y → Option Entry)
+block_fails : {X Y : Type 0} (reads : ByteAccess) (view : X → List Entry × ℕ) (seen : Y → Option Entry)
     (s t : Scan) (f : FileError) → scan_left t ≡ scan_left s → t.entries ≡ [] → 0 < t.blocks
     → FileGives reads view (Err f) (block_result t.body t.position)
     → FileGives reads seen (Err f) (next_of (scan_left s))
@@ -165,7 +193,7 @@ block_fails reads view seen s t (Io f) left none some fails = fails
 block_fails reads view seen s t (Table f) left none some fails = λ memory.
     ap next_of (sym left ∙ block_err t f none some (fails memory))
 
-pub no_block : {X Y : Type 0} (reads : Reads) (view : X → List Entry × ℕ) (seen : Y → Option Entry)
+pub no_block : {X Y : Type 0} (reads : ByteAccess) (view : X → List Entry × ℕ) (seen : Y → Option Entry)
     (s u t : Scan) (f : FileError) → scan_left u ≡ scan_left s → u.entries ≡ [] → t ≡ unlend u
     → 0 < t.blocks → FileGives reads view (Err f) (block_result t.body t.position)
     → FileGives reads seen (Err f) (next_of (scan_left s))
@@ -176,7 +204,7 @@ no_block reads view seen s u t f left none is some fails =
 -- ---- the next block
 
 -- the error of a step, after which nothing is done
-bind_error : {X Y Z W : Type 0} (reads : Reads) (view : X → Z) (seen : Y → W) (f : Z → W)
+bind_error : {X Y Z W : Type 0} (reads : ByteAccess) (view : X → Z) (seen : Y → W) (f : Z → W)
     (returned : Result Z Error) (e : FileError) → FileGives reads view (Err e) returned
     → FileGives reads seen (Err e) (returned >>= λ z. Ok (f z))
 bind_error reads view seen f returned (Io g) may = may
@@ -184,7 +212,7 @@ bind_error {Z = Z} {W = W} reads view seen f returned (Table g) fails = λ memor
     ap (λ (r : Result Z Error). r >>= λ z. answered (f z)) (fails memory)
 
 -- a block could not be read
-pub block_refuses : {X Y : Type 0} (reads : Reads) (view : X → Loaded) (seen : Y → List Entry × ℕ)
+pub block_refuses : {X Y : Type 0} (reads : ByteAccess) (view : X → Loaded) (seen : Y → List Entry × ℕ)
     (body : List ℕ) (position : ℕ) (r : Result Y FileError) (e : FileError)
     → IsErrAnd r (λ y. y ≡ e) → FileGives reads view (Err e) (load_at_result body position Data)
     → FileGives reads seen r (block_result body position)
@@ -229,7 +257,7 @@ fault_same : (body : List ℕ) (position : ℕ) (r : Result Loaded Error)
 fault_same body position (Ok b) = refl
 fault_same body position (Err e) = refl
 
-error_faults : {X Z : Type 0} (Y : Type 0) (reads : Reads) (view : X → Z) (e : FileError)
+error_faults : {X Z : Type 0} (Y : Type 0) (reads : ByteAccess) (view : X → Z) (e : FileError)
     (returned : Result Z Error) (fault : Option Error) → fault_of returned ≡ fault
     → FileGives reads view (Err e) returned → FileFaults {X = Y} reads (Err e) fault
 error_faults Y reads view (Io f) returned fault same fails = fails
@@ -237,7 +265,7 @@ error_faults Y reads view (Table f) returned fault same fails = λ memory.
     sym same ∙ ap fault_of (fails memory)
 
 -- its first block could not be read
-pub scan_refused : {X Y : Type 0} (reads : Reads) (view : X → List Entry × ℕ) (body : List ℕ)
+pub scan_refused : {X Y : Type 0} (reads : ByteAccess) (view : X → List Entry × ℕ) (body : List ℕ)
     (r : Result Y FileError) (e : FileError) → IsErrAnd r (λ y. y ≡ e)
     → FileGives reads view (Err e) (block_result body 0)
     → FileFaults reads r (fault_of (load_at_result body 0 Data))

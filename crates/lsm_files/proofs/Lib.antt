@@ -1,4 +1,5 @@
 pub mod Known
+pub mod Kept
 pub mod Parts
 pub mod Loads
 pub mod Headed

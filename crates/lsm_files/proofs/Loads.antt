@@ -10,7 +10,7 @@ use Rattle.sst_blocks.specs.declared.block_type.BlockType.{BlockType}
 use Rattle.sst_blocks.specs.Access.{IsInMemory, IsKnown as IsKnownTo}
 use Rattle.sst_blocks.specs.Block.{decode_block, load_result}
 use Rattle.sst_blocks.proofs.LoadLemmas.{decode_part, load_truncated}
-use Rattle.lsm_files.specs.Reads.{AreKnown, IsPartAt, Reads, access_of, may_fail, unknown, whole}
+use Rattle.lsm_files.specs.Reads.{AreKnown, IsPartAt, ByteAccess, access_of, may_fail, unknown, whole}
 
 -- a call that passed a fault on
 pub passes_fault : {X Y : Type 0} (view : X → Y) (r : Result X Error) (returned : Result Y Error)
@@ -19,18 +19,18 @@ passes_fault view r returned e is fails =
     let p = err_from_is_err_and r is in
     rw (p.1, p.2) fails
 
-pub known_to : (r : Reads) → IsKnownTo (access_of r) → AreKnown r
+pub known_to : (r : ByteAccess) → IsKnownTo (access_of r) → AreKnown r
 known_to whole known = tt
 known_to may_fail known = tt
 known_to unknown known = known
 
-pub to_known : (r : Reads) → AreKnown r → IsKnownTo (access_of r)
+pub to_known : (r : ByteAccess) → AreKnown r → IsKnownTo (access_of r)
 to_known whole known = tt
 to_known may_fail known = tt
 to_known unknown known = known
 
 -- bytes that are read on each load are not in memory
-pub not_at_hand : (r : Reads) → IsInMemory (access_of r) → ⊥
+pub not_at_hand : (r : ByteAccess) → IsInMemory (access_of r) → ⊥
 not_at_hand whole at = at
 not_at_hand may_fail at = at
 not_at_hand unknown at = at

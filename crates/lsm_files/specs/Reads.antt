@@ -4,31 +4,31 @@ use Rattle.sst_blocks.specs.Access.{Access, read_on_load, unknown as unknown_acc
 
 -- The bytes are known, and each read within them succeeds; they are known, and reads may fail; or
 -- nothing is known of them, as of a file that anyone may change.
-pub data Reads : Type 0 where
-  whole : Reads
-  may_fail : Reads
-  unknown : Reads
+pub data ByteAccess : Type 0 where
+  whole : ByteAccess
+  may_fail : ByteAccess
+  unknown : ByteAccess
 
 -- The bytes are known.
-abbrev pub AreKnown : Reads → Type 0
+abbrev pub AreKnown : ByteAccess → Type 0
 AreKnown whole = Unit {0}
 AreKnown may_fail = Unit {0}
 AreKnown unknown = ⊥
 
 -- Each read within the bytes succeeds.
-abbrev pub NeverFails : Reads → Type 0
+abbrev pub NeverFails : ByteAccess → Type 0
 NeverFails whole = Unit {0}
 NeverFails may_fail = ⊥
 NeverFails unknown = ⊥
 
 -- A read may fail.
-abbrev pub MayFail : Reads → Type 0
+abbrev pub MayFail : ByteAccess → Type 0
 MayFail whole = ⊥
 MayFail may_fail = Unit {0}
 MayFail unknown = Unit {0}
 
 -- How a source that reads the bytes on each load has them.
-abbrev pub access_of : Reads → Access
+abbrev pub access_of : ByteAccess → Access
 access_of whole = read_on_load
 access_of may_fail = read_on_load
 access_of unknown = unknown_access

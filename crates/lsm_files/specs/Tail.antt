@@ -7,7 +7,7 @@ use Rattle.sst_blocks.specs.Sections.{body_of, section_in, section_names, traile
 use Rattle.lsm_files.specs.declared.error.FileError.{FileError}
 use Rattle.lsm_files.specs.declared.error.FileError.TheVariants.{Io, Table}
 use Rattle.lsm_files.specs.declared.tail.Tail.{Tail}
-use Rattle.lsm_files.specs.Reads.{MayFail, Reads}
+use Rattle.lsm_files.specs.Reads.{MayFail, ByteAccess}
 
 -- The last bytes of a file, and how many are before them.
 pub record IsTailOf (bytes : List ℕ) (tail : Tail) : Type 0 where
@@ -21,11 +21,11 @@ pub record IsTocOf (bytes : List ℕ) (toc : List (Option Section)) (body_len : 
   pub body : length (body_of bytes) ≡ body_len
 
 -- A read failed, or the error is the fault of the trailer.
-abbrev pub IsTrailerError : Reads → List ℕ → FileError → Type 0
+abbrev pub IsTrailerError : ByteAccess → List ℕ → FileError → Type 0
 IsTrailerError reads bytes (Io e) = MayFail reads
 IsTrailerError reads bytes (Table e) = trailer_fault bytes ≡ Some e
 
 -- A read failed, memory ran out, or the bytes that were wanted end past the body.
-abbrev pub IsPartError : Reads → ℕ → ℕ → FileError → Type 0
+abbrev pub IsPartError : ByteAccess → ℕ → ℕ → FileError → Type 0
 IsPartError reads len end (Io e) = MayFail reads
 IsPartError reads len end (Table e) = is_memory e ≡ false → (e ≡ Truncated) × (len < end)

@@ -1,4 +1,5 @@
 -- The definitions that contracts of tables in files cite, with those of the crates below.
+pub use Rattle.std.specs.IoError.{error_kind}
 pub use Rattle.std.specs.Option.{option_map}
 pub use Rattle.std.specs.Result.{IsErrAnd}
 pub use Rattle.sst_entries.specs.Entry.{Entry}
@@ -22,11 +23,11 @@ pub use Rattle.lsm_readers.specs.point.Read.{Opens}
 pub use Rattle.lsm_readers.specs.point.Table.{IsRecovered, OpenTable, parts_of}
 pub use Rattle.lsm_readers.specs.Scan.{IsEndedScan, block_result, ended, fault_of}
 pub use Rattle.lsm_readers.specs.Scan.{lend_next, loads, loads_of, scan_left, scan_results}
-pub use Rattle.lsm_readers.specs.Stored.{StoresList}
-pub use Rattle.lsm_files.specs.Keeping.{IsLoadOf, KeepsBlockOf}
+pub use Rattle.lsm_readers.specs.Stored.{StoresList, fits_result}
+pub use Rattle.lsm_files.specs.Keeping.{IsKept, IsLoadOf, KeepsBlockOf}
 pub use Rattle.lsm_files.specs.Reads.{AreKnown, IsPartAt, NeverFails, whole}
 pub use Rattle.lsm_files.specs.Results.{FileFaults, FileFindsInList, FileGives, IsFailure}
-pub use Rattle.lsm_files.specs.Results.{IsFailureOr, IsIo}
+pub use Rattle.lsm_files.specs.Results.{IsFailureOr, IsIo, MayBeError, kept_failure}
 pub use Rattle.lsm_files.specs.Results.{IsReadError, failure_as_memory}
-pub use Rattle.lsm_files.specs.Scan.{in_file, next_of, rest_of}
+pub use Rattle.lsm_files.specs.Scan.{LoadsUpTo, in_file, next_of, rest_of, table_error}
 pub use Rattle.lsm_files.specs.Tail.{IsTailOf, IsTocOf, IsTrailerError, IsPartError}

@@ -102,6 +102,21 @@ impl<'a, R: ReadAt, A: Allocator + Clone> FileBlocks<'a, R, A> {
         }
     }
 
+    /// Keeps the system's error of a read, and reports [`Error::OutOfMemory`] in its place.
+    fn keep(&mut self, read: Result<Slice<A>, FileError>) -> Result<Slice<A>, Error>
+        requires { IfErr read (spec.MayBeError R.reads) }
+        ensures { (result, self.new) ≡ spec.kept_failure read self.old }
+    {
+        match read {
+            Ok(part) => Ok(part),
+            Err(FileError::Table(error)) => Err(error),
+            Err(FileError::Io(error)) => {
+                self.failure = Some(error);
+                Err(Error::OutOfMemory)
+            }
+        }
+    }
+
     /// Reads the bytes that a handle describes.
     ///
     /// Fails with [`Error::Truncated`] if the handle's size is below a header's or reaches past the
@@ -124,14 +139,8 @@ impl<'a, R: ReadAt, A: Allocator + Clone> FileBlocks<'a, R, A> {
         {
             return Err(Error::Truncated);
         }
-        match read_slice(self.file, self.alloc, handle.offset().0, size) {
-            Ok(part) => Ok(part),
-            Err(FileError::Table(error)) => Err(error),
-            Err(FileError::Io(error)) => {
-                self.failure = Some(error);
-                Err(Error::OutOfMemory)
-            }
-        }
+        let read = read_slice(self.file, self.alloc, handle.offset().0, size);
+        self.keep(read)
     }
 }
 

@@ -16,10 +16,10 @@ use std::os::unix::fs::FileExt;
 /// those of a [`File`], to which other programs can write.
 pub trait ReadAt {
     ghost use Rattle.std.specs.Prelude.{◌≡◌, ◌+◌, ◌<◌, List, ℕ, IfOk, IsOk, OnErr, OnOk, length};
-    ghost use Rattle.lsm_files.specs.Reads.{AreKnown, IsPartAt, NeverFails, Reads};
+    ghost use Rattle.lsm_files.specs.Reads.{AreKnown, ByteAccess, IsPartAt, NeverFails};
 
     /// What is known of the bytes, and whether reads fail.
-    ghost reads: { Reads };
+    ghost reads: { ByteAccess };
 
     /// The bytes, where they are known.
     ghost bytes: { Self → List ℕ };
@@ -62,6 +62,7 @@ fn part_at(bytes: &[u8], offset: u64, len: usize) -> Option<&[u8]>
 fn copy_at(bytes: &[u8], buf: &mut [u8], offset: u64) -> io::Result<()>
     ensures part { OnOk result (spec.IsPartAt bytes.now offset buf.new) }
     ensures whole { OnErr result (length bytes.now < offset + length buf.old) }
+    ensures kind { IfErr result (λ e. spec.error_kind e ≡ ErrorKind.UnexpectedEof) }
 {
     match part_at(bytes, offset, buf.len()) {
         Some(part) => {

@@ -1,6 +1,6 @@
 //! Scanning a whole table in its file, block by block.
 ghost use Rattle.std.specs.Prelude.{◌≡◌, ◌<◌, ◌-◌, ◌↔◌, ℕ, [], Bool, List, Ok, None, is_some};
-ghost use Rattle.std.specs.Prelude.{length, IfOk, IsTrue, OnErr, OnOk};
+ghost use Rattle.std.specs.Prelude.{length, Err, IfErr, IfOk, IsTrue, OnErr, OnOk};
 ghost use Rattle.lsm_files.specs.Words as spec;
 
 use crate::ahead::Ahead;
@@ -133,6 +133,10 @@ impl<R: ReadAt, A: Allocator + Clone> FileScanner<'_, R, A> {
         // It loads the blocks up to the next entry.
         ensures counted { spec.AreKnown R.reads → OnOk result
             (self.new.opened ≡ spec.loads (spec.loads_of self.old) self.old.opened) }
+        // An error loads at most these blocks. If there are none, it is that of the next entry.
+        ensures begun { spec.AreKnown R.reads → OnErr result (spec.LoadsUpTo self.old self.new) }
+        ensures calm { spec.AreKnown R.reads → spec.loads_of self.old ≡ 0 → IfErr result
+            (λ e. spec.table_error (spec.next_of (spec.scan_left self.old)) ≡ Err e) }
         ensures more { IfOk result (λ more. more ≡ is_some self.new.lent) }
         ensures ended { OnErr result (spec.IsEndedScan self.new) }
         ensures none { OnErr result (self.new.lent ≡ None) }

@@ -6,9 +6,9 @@ use Rattle.sst_entries.specs.declared.error.Error.{Error}
 use Rattle.lsm_readers.specs.Scan.{IsEndedScan, Scan, scan_left}
 use Rattle.lsm_files.specs.declared.error.FileError.{FileError}
 use Rattle.lsm_files.specs.Results.{FileGives}
-use Rattle.lsm_files.specs.Scan.{next_of, rest_of}
-use Rattle.lsm_files.proofs.FileCounts.{arrived, entry_counted, next_counted, none_counted, over_counted}
-use Rattle.lsm_files.proofs.FileScans.{entry_came, error_ends, no_block, no_entry, on_block, over, some_lent}
+use Rattle.lsm_files.specs.Scan.{next_of, rest_of, table_error}
+use Rattle.lsm_files.proofs.FileCounts.{arrived, block_counted, block_needed, entry_counted, next_counted, none_counted, over_counted, stopped_counted}
+use Rattle.lsm_files.proofs.FileScans.{entry_came, error_ends, exact_error, no_block, no_entry, on_block, over, some_lent}
 use Rattle.lsm_files.proofs.scanner.FileScanner.advance.Goals as goal
 
 more_or : (more : Bool) → more ≡ true → (r : Result Bool FileError) → r ≡ Ok more → r ≡ Ok false → ⊥
@@ -108,3 +108,30 @@ returns-then-not-has_block-clause-counted g c known =
     let t = c.next_entry.new.self in
     let end = no_entry u t (Ok c.in_ok-next_entry.field-0) c.in_ok-next_entry.ensures (ap arrived c.if-branch.false) in
     over_counted c.args.self.now u t (c.loop-self.invariant.counted known) end.0 end.1 (λ more. let never : true ≡ false = sym (c.has_block.ensures.1 more) ∙ c.if-not-has_block.true in cc)
+
+pub returns-in_err-next_entry-clause-begun : goal.returns-in_err-next_entry-clause-begun
+returns-in_err-next_entry-clause-begun g c known =
+    let p = err_from_is_err_and c.from_residual.result c.from_residual.ensures.1 in
+    rw p.1 (stopped_counted c.args.self.now c.loop-self.self c.next_entry.new.self c.in_err-next_entry.field-0.0 (c.loop-self.invariant.counted known) c.in_err-next_entry.ensures)
+
+pub returns-in_err-next_entry-clause-calm : goal.returns-in_err-next_entry-clause-calm
+returns-in_err-next_entry-clause-calm g c known none =
+    let p = err_from_is_err_and c.from_residual.result c.from_residual.ensures.1 in
+    let exact = exact_error c.loop-self.self c.next_entry.new.self c.in_err-next_entry.field-0.0 c.in_err-next_entry.ensures in
+    rw (p.1, p.2) (ap (λ (rs : List (Result Entry Error)). table_error (next_of rs)) (sym (c.loop-self.invariant.left known)) ∙ exact)
+
+pub returns-in_err-next_block-clause-begun : goal.returns-in_err-next_block-clause-begun
+returns-in_err-next_block-clause-begun g c known =
+    let p = err_from_is_err_and c.from_residual-in_err-next_block.result c.from_residual-in_err-next_block.ensures.1 in
+    let u = c.loop-self.self in
+    let t = c.next_entry.new.self in
+    let v = c.next_block.new.self in
+    let end = no_entry u t (Ok c.in_ok-next_entry.field-0) c.in_ok-next_entry.ensures (ap arrived c.if-branch.false) in
+    rw p.1 (block_counted c.args.self.now u t v (c.loop-self.invariant.counted known) end.0 end.1 (c.has_block.ensures.0 c.if-not-has_block.false) (ap (λ (w : Scan). w.opened) c.in_err-next_block.ensures.err))
+
+pub returns-in_err-next_block-clause-calm : goal.returns-in_err-next_block-clause-calm
+returns-in_err-next_block-clause-calm g c known zero =
+    let u = c.loop-self.self in
+    let t = c.next_entry.new.self in
+    let end = no_entry u t (Ok c.in_ok-next_entry.field-0) c.in_ok-next_entry.ensures (ap arrived c.if-branch.false) in
+    absurd (block_needed c.args.self.now u t (c.loop-self.invariant.counted known) end.0 end.1 (c.has_block.ensures.0 c.if-not-has_block.false) zero)

@@ -4,7 +4,8 @@ use Rattle.sst_entries.specs.declared.error.Error.{Error}
 use Rattle.sst_entries.specs.Error.{unless}
 use Rattle.lsm_readers.specs.point.Parts.{parts_result, recovered_result}
 use Rattle.lsm_readers.specs.point.Table.{OpenTable, parts_of}
-use Rattle.lsm_files.proofs.Opened.{passed_error, trailer_passes, trailer_refuses}
+use Rattle.lsm_readers.proofs.StoredParts.{stored_fits}
+use Rattle.lsm_files.proofs.Opened.{passed_error, stored_opens, trailer_passes, trailer_refuses}
 use Rattle.lsm_files.proofs.table.FileTable.open.Goals as goal
 
 pub returns-in_err-toc-clause-returned : goal.returns-in_err-toc-clause-returned
@@ -40,3 +41,17 @@ invariant_of-result g c known =
         returned = subst (λ (n : ℕ). recovered_result bytes n c.args.pin_filter c.args.pin_index ≡ Ok (parts_of inner)) (sym c.in_ok-inner.ensures.number) returned;
       },
     )
+
+pub returns-in_err-toc-clause-stores : goal.returns-in_err-toc-clause-stores
+returns-in_err-toc-clause-stores g c known es is =
+    stored_opens g.R.ReadAt.reads (λ (t : OpenTable). t.parts) (g.R.ReadAt.bytes c.args.file) es is c.args.global_seqno c.args.pin_filter c.args.pin_index
+    c.from_residual.result (returns-in_err-toc-clause-returned g c known)
+
+pub returns-in_err-inner-clause-stores : goal.returns-in_err-inner-clause-stores
+returns-in_err-inner-clause-stores g c known es is =
+    stored_opens g.R.ReadAt.reads (λ (t : OpenTable). t.parts) (g.R.ReadAt.bytes c.args.file) es is c.args.global_seqno c.args.pin_filter c.args.pin_index
+    c.from_residual-in_err-inner.result (returns-in_err-inner-clause-returned g c known)
+
+pub returns-clause-stores : goal.returns-clause-stores
+returns-clause-stores g c known es is =
+    stored_fits (g.R.ReadAt.bytes c.args.file) es is c.args.global_seqno c.args.pin_filter c.args.pin_index _ (returns-clause-returned g c known)
