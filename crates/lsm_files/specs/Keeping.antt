@@ -10,8 +10,8 @@ abbrev pub IsLoadOf : List ℕ → Place → BlockType → Loaded → Type 0
 IsLoadOf body place kind b = load_result body place.offset place.size kind ≡ Ok b
 
 -- This block of a handle is cached.
-abbrev pub IsKept : {A : Type 0} → Place → Loaded → Option (Kept A) → Type 0
-IsKept place b kept = IsSomeAnd kept (λ k. (k.handle ≡ place) × (k.block ≡ b))
+abbrev pub IsCached : {A : Type 0} → Place → Loaded → Option (Kept A) → Type 0
+IsCached place b kept = IsSomeAnd kept (λ k. (k.handle ≡ place) × (k.block ≡ b))
 
 -- A cached block, if any, is a block of these bytes.
 abbrev pub KeepsBlockOf : {A : Type 0} → List ℕ → Option (Kept A) → Type 0

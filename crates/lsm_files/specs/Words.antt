@@ -24,7 +24,7 @@ pub use Rattle.lsm_readers.specs.point.Table.{IsRecovered, OpenTable, parts_of}
 pub use Rattle.lsm_readers.specs.Scan.{IsEndedScan, block_result, ended, fault_of}
 pub use Rattle.lsm_readers.specs.Scan.{lend_next, loads, loads_of, scan_left, scan_results}
 pub use Rattle.lsm_readers.specs.Stored.{StoresList, fits_result}
-pub use Rattle.lsm_files.specs.Keeping.{IsKept, IsLoadOf, KeepsBlockOf}
+pub use Rattle.lsm_files.specs.Keeping.{IsCached, IsLoadOf, KeepsBlockOf}
 pub use Rattle.lsm_files.specs.Reads.{AreKnown, IsPartAt, NeverFails, whole}
 pub use Rattle.lsm_files.specs.Results.{FileFaults, FileFindsInList, FileGives, IsFailure}
 pub use Rattle.lsm_files.specs.Results.{IsFailureOr, IsIo, MayBeError, kept_failure}

@@ -92,7 +92,7 @@ fn kept_at<'k, A: Allocator>(
     kind: BlockType,
 ) -> Option<&'k Block<A>>
     ensures kind { IfSome result (λ b. b.now.kind ≡ kind) }
-    ensures same { IfSome result (λ b. spec.IsKept handle.now b.now kept.now) }
+    ensures same { IfSome result (λ b. spec.IsCached handle.now b.now kept.now) }
     ensures loaded { (body : List ℕ) → spec.KeepsBlockOf body kept.now →
         IfSome result (λ b. spec.IsLoadOf body handle.now kind b.now) }
 {
@@ -116,7 +116,7 @@ fn load_kept<R: ReadAt, A: Allocator + Clone>(
         (spec.load_result body handle.now.offset handle.now.size kind) }
     ensures kind { IfOk result (λ b. b.kind ≡ kind) }
     // The block is cached.
-    ensures same { IfOk result (λ b. spec.IsKept handle.now b kept.new) }
+    ensures same { IfOk result (λ b. spec.IsCached handle.now b kept.new) }
     ensures kept { spec.AreKnown R.reads → spec.KeepsBlockOf (spec.body_of source.old.0) kept.new }
     ensures body { spec.body_of source.new.0 ≡ spec.body_of source.old.0 }
     ensures opened { source.new.1 ≡ spec.with_load kind source.old.1 }
