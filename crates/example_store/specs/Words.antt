@@ -9,7 +9,7 @@ pub use Rattle.lsm_tables.specs.Words.{YieldTogether, may_follow}
 pub use Rattle.lsm_tables.specs.Words.{YieldsList, Entry, Gives, HasList, HaveAll, HaveEntries}
 pub use Rattle.lsm_tables.specs.Words.{HoldLists, HoldUnion, IsInOrder, IsLeastSize, IsStrict}
 pub use Rattle.lsm_tables.specs.Words.{IsWritable, OpenTable, Refuses, RunsHold, RunsHoldLists, SameTables}
-pub use Rattle.lsm_tables.specs.Words.{TableLists, each_run}
+pub use Rattle.lsm_tables.specs.Words.{OnFullLists, OnFullTables, TableLists, each_run}
 pub use Rattle.lsm_tables.specs.Words.{StoresList, Tombstone, Value, entry, entry_of_ref}
 pub use Rattle.lsm_tables.specs.Words.{front_length, ids_behind, is_before, is_from, is_memory}
 pub use Rattle.lsm_tables.specs.Words.{is_to, is_weak}

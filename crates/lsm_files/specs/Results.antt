@@ -1,17 +1,20 @@
 -- Results of calls on a table in its file.
-use Rattle.std.specs.Prelude.{◌≡◌, ◌<◌, ◌⊎◌, ℕ, Bool, false, true, List, Option, Some, None, Result, Ok, Err}
+use Rattle.std.specs.Prelude.{◌≡◌, ◌+◌, ◌<◌, ◌≤◌, ◌⊎◌, ℕ, Bool, false, true, length, List, Option}
+use Rattle.std.specs.Prelude.{Some, None, Result, Ok, Err}
 use Rattle.sst_entries.specs.declared.error.Error.{Error}
-use Rattle.sst_entries.specs.declared.error.Error.TheVariants.{OutOfMemory}
+use Rattle.sst_entries.specs.declared.error.Error.TheVariants.{OutOfMemory, Truncated}
 use Rattle.sst_entries.specs.Entry.{Entry}
 use Rattle.sst_entries.specs.Error.{Fails, is_memory}
 use Rattle.sst_entries.specs.Point.{point}
+use Rattle.sst_blocks.specs.Block.{header_len}
+use Rattle.sst_blocks.specs.Place.{Place}
 use Rattle.sst_blocks.specs.declared.opened.Opened.{Opened}
 use Rattle.lsm_readers.specs.point.Answer.{lift}
 use Rattle.lsm_readers.specs.point.Table.{OpenTable}
 use Rattle.lsm_readers.specs.Stored.{StoresList}
 use Rattle.lsm_files.specs.declared.error.FileError.{FileError}
 use Rattle.lsm_files.specs.declared.error.FileError.TheVariants.{Io, Table}
-use Rattle.lsm_files.specs.Reads.{MayFail, ByteAccess}
+use Rattle.lsm_files.specs.Reads.{AreKnown, ByteAccess, MayFail}
 
 -- The error is one of the system.
 abbrev pub IsIo : FileError → Type 0
@@ -42,6 +45,16 @@ abbrev pub FileFaults : {X : Type 0} → ByteAccess → Result X FileError → O
 FileFaults reads (Ok x) returned = returned ≡ None
 FileFaults reads (Err (Io e)) returned = MayFail reads
 FileFaults reads (Err (Table e)) returned = is_memory e ≡ false → returned ≡ Some e
+
+-- A handle describes less than a header, or bytes that end past the body.
+abbrev pub IsHandleFault : ByteAccess → Place → List ℕ → Error → Type 0
+IsHandleFault reads place body e =
+    (e ≡ Truncated) × (AreKnown reads → header_len ≤ place.size →
+    place.offset + place.size ≤ length body → ⊥)
+
+-- This holds of any list that the bytes store, where they are known.
+abbrev pub OnStoredList : ByteAccess → List ℕ → (List Entry → Type 0) → Type 0
+OnStoredList reads bytes P = AreKnown reads → (es : List Entry) → StoresList bytes es → P es
 
 -- A read failed, or memory ran out, or the bytes end before the last that was wanted.
 abbrev pub IsReadError : ByteAccess → ℕ → ℕ → FileError → Type 0

@@ -27,6 +27,7 @@ pub use Rattle.lsm_readers.specs.Stored.{StoresList, fits_result}
 pub use Rattle.lsm_files.specs.Keeping.{IsCached, IsLoadOf, KeepsBlockOf}
 pub use Rattle.lsm_files.specs.Reads.{AreKnown, IsPartAt, NeverFails, whole}
 pub use Rattle.lsm_files.specs.Results.{FileFaults, FileFindsInList, FileGives, IsFailure}
+pub use Rattle.lsm_files.specs.Results.{IsHandleFault, OnStoredList}
 pub use Rattle.lsm_files.specs.Results.{IsFailureOr, IsIo, MayBeError, kept_failure}
 pub use Rattle.lsm_files.specs.Results.{IsReadError, failure_as_memory}
 pub use Rattle.lsm_files.specs.Scan.{LoadsUpTo, in_file, next_of, rest_of, table_error}

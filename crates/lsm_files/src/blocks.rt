@@ -1,5 +1,5 @@
 //! A source that reads each block from a file when it is loaded.
-ghost use Rattle.std.specs.Prelude.{◌≡◌, ◌+◌, ◌≤◌, length, IfErr, IfOk, true, false, Ok};
+ghost use Rattle.std.specs.Prelude.{◌≡◌, length, IfErr, IfOk, true, false, Ok};
 ghost use Rattle.lsm_files.specs.Words as spec;
 
 use crate::read_at::read_slice;
@@ -125,10 +125,8 @@ impl<'a, R: ReadAt, A: Allocator + Clone> FileBlocks<'a, R, A> {
         ensures part { let body = spec.body_of self.old.0 in
             spec.AreKnown R.reads → IfOk result (λ part.
             spec.IsPartAt body handle.now.offset part × (length part ≡ handle.now.size)) }
-        ensures fault { let body = spec.body_of self.old.0 in
-            IfErr result (λ e. spec.is_memory e ≡ false →
-            (e ≡ spec.Truncated) × (spec.AreKnown R.reads → spec.header_len ≤ handle.now.size →
-            handle.now.offset + handle.now.size ≤ length body → ⊥)) }
+        ensures fault { IfErr result (λ e. spec.is_memory e ≡ false →
+            spec.IsHandleFault R.reads handle.now (spec.body_of self.old.0) e) }
         ensures bytes { self.new.0 ≡ self.old.0 }
         ensures opened { self.new.1 ≡ self.old.1 }
     {

@@ -1,5 +1,5 @@
 //! Point reads of many keys of a table in its file.
-ghost use Rattle.std.specs.Prelude.{◌≡◌, Ok, List, map};
+ghost use Rattle.std.specs.Prelude.{◌≡◌, Ok, map};
 ghost use Rattle.lsm_files.specs.Words as spec;
 
 use crate::keeping::Keeping;
@@ -51,11 +51,10 @@ impl<R: ReadAt + Drop, A: Allocator + Clone> FileTable<R, A> {
             (spec.many_results self.now queries.now) }
         // On bytes that store a list it is each query's newest visible version in the list, global
         // seqno applied.
-        ensures list { spec.AreKnown R.reads →
-            (es : List spec.Entry) → spec.StoresList self.now.bytes es →
+        ensures list { spec.OnStoredList R.reads self.now.bytes (λ es.
             let all = spec.lift es self.now.global_seqno in
             spec.FileGives R.reads (λ found. found.items) result
-            (Ok (map (λ q. spec.point all q.key q.seqno) queries.now)) }
+            (Ok (map (λ q. spec.point all q.key q.seqno) queries.now))) }
     {
         let alloc = self.alloc.clone()?;
         let file = FileBlocks::new(&self.file, &self.alloc, self.body_len);

@@ -87,10 +87,9 @@ impl<R: ReadAt + Drop, A: Allocator + Clone> FileTable<R, A> {
             spec.scan_results (spec.body_of self.now.bytes) self.now.parts.facts.data_block_count
             self.now.global_seqno) }
         // On bytes that store a list it yields the list, global seqno applied.
-        ensures list { spec.AreKnown R.reads →
-            (es : List spec.Entry) → spec.StoresList self.now.bytes es → 0 < length es →
+        ensures list { spec.OnStoredList R.reads self.now.bytes (λ es. 0 < length es →
             IfOk result (λ s. spec.scan_left s ≡
-            spec.ok_results (spec.lift es self.now.global_seqno)) }
+            spec.ok_results (spec.lift es self.now.global_seqno))) }
         ensures opened { IfOk result (λ s. s.opened ≡ spec.with_load spec.Data spec.none_opened) }
     {
         let mut blocks = Ahead::new(&self.file, &self.alloc, self.body_len);

@@ -82,10 +82,9 @@ impl<R: ReadAt + Drop, A: Allocator + Clone> FileTable<R, A> {
             spec.FileGives R.reads (λ (t : spec.OpenTable). t.parts) result
             (spec.recovered_result (R.bytes file) global_seqno pin_filter pin_index) }
         // Bytes that store a list open if the highest seqno fits.
-        ensures stores { spec.AreKnown R.reads →
-            (es : List spec.Entry) → spec.StoresList (R.bytes file) es →
+        ensures stores { spec.OnStoredList R.reads (R.bytes file) (λ es.
             spec.FileGives R.reads (λ (t : spec.OpenTable). tt) result
-            (spec.fits_result es global_seqno) }
+            (spec.fits_result es global_seqno)) }
         ensures bytes { IfOk result (λ t. t.bytes ≡ R.bytes file) }
         ensures number { IfOk result (λ t. t.global_seqno ≡ global_seqno) }
         ensures tree { IfOk result (λ t. t.tree_id ≡ tree_id) }

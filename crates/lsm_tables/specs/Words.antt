@@ -57,7 +57,8 @@ pub use Rattle.lsm_runs.specs.compaction.AnyRuns.{WritesSome, scans_of}
 pub use Rattle.lsm_runs.specs.compaction.Chain.{AreCutOf, FitsAsTables, IsRunOfList, chain_fault}
 pub use Rattle.lsm_runs.specs.compaction.Chain.{both_fault, ids_behind, run_label, tables_fault}
 pub use Rattle.lsm_runs.specs.compaction.Compacted.{AreCompactable, AreMergeable, AreWrittenBy}
-pub use Rattle.lsm_runs.specs.compaction.Compacted.{HaveEntries, kept_in, rules_by}
+pub use Rattle.lsm_runs.specs.compaction.Compacted.{HaveEntries, OnFullLists, OnFullTables}
+pub use Rattle.lsm_runs.specs.compaction.Compacted.{kept_in, rules_by}
 pub use Rattle.lsm_runs.specs.compaction.Filtered.{CameTo, CameUntil, CameUpTo, RefusesBy}
 pub use Rattle.lsm_runs.specs.compaction.ListRuns.{HasList, HaveAll}
 pub use Rattle.lsm_runs.specs.compaction.OpenedBy.{AreOpenedBy, HasRunBy, IsOpenedBy, IsRunBy}

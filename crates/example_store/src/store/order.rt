@@ -25,11 +25,9 @@ pub fn are_strict<A: Allocator + Clone>(
 ) -> Result<bool, Error>
     requires some { spec.AllByRecursion (λ (run : List spec.OpenTable). 0 < length run)
         (spec.each_run runs.now) }
-    ensures exact { (lists : spec.TableLists) → spec.RunsHold runs.now lists →
-        spec.AllByRecursion spec.HaveEntries lists →
-        IfOk result (λ b. IsTrue b ↔ spec.IsStrict (spec.union_in lists)) }
-    ensures memory { (lists : spec.TableLists) → spec.RunsHold runs.now lists →
-        spec.AllByRecursion spec.HaveEntries lists → IfErr result (λ e. e ≡ OutOfMemory) }
+    ensures exact { spec.OnFullLists runs.now (λ lists.
+        IfOk result (λ b. IsTrue b ↔ spec.IsStrict (spec.union_in lists))) }
+    ensures memory { spec.OnFullLists runs.now (λ _. IfErr result (λ e. e ≡ OutOfMemory)) }
 {
     let scanners = scanners_of(alloc, runs)?;
     come_in_order(alloc, scanners)
@@ -43,11 +41,9 @@ fn scanners_of<A: Allocator + Clone>(
     requires some { spec.AllByRecursion (λ (run : List spec.OpenTable). 0 < length run)
         (spec.each_run runs.now) }
     ensures list { let advances = ⟦<RunScanner<A> as Lending>⟧.advances in
-        (lists : spec.TableLists) → spec.RunsHold runs.now lists →
-        spec.AllByRecursion spec.HaveEntries lists →
-        IfOk result (λ v. spec.YieldTogether advances spec.nowhere v.items (map spec.joined lists)) }
-    ensures memory { (lists : spec.TableLists) → spec.RunsHold runs.now lists →
-        spec.AllByRecursion spec.HaveEntries lists → IfErr result (λ e. e ≡ OutOfMemory) }
+        spec.OnFullLists runs.now (λ lists. IfOk result (λ v.
+        spec.YieldTogether advances spec.nowhere v.items (map spec.joined lists))) }
+    ensures memory { spec.OnFullLists runs.now (λ _. IfErr result (λ e. e ≡ OutOfMemory)) }
 {
     let mut scanners = Vec::new(alloc.clone()?);
     for run in runs {
@@ -60,12 +56,10 @@ fn scanners_of<A: Allocator + Clone>(
 fn scanner_of<A: Allocator + Clone>(run: &Arc<Run<Table<A>, A>, A>) -> Result<RunScanner<A>, Error>
     requires { 0 < length (spec.arc_value run.now) }
     ensures list { let advances = ⟦<RunScanner<A> as Lending>⟧.advances in
-        (lists : List (List spec.Entry)) → spec.HoldLists (spec.arc_value run.now) lists →
-        spec.HaveEntries lists →
-        IfOk result (spec.YieldsList advances spec.nowhere (spec.joined lists)) }
-    ensures memory { (lists : List (List spec.Entry)) →
-        spec.HoldLists (spec.arc_value run.now) lists →
-        spec.HaveEntries lists → IfErr result (λ e. e ≡ OutOfMemory) }
+        spec.OnFullTables (spec.arc_value run.now) (λ lists.
+        IfOk result (spec.YieldsList advances spec.nowhere (spec.joined lists))) }
+    ensures memory { spec.OnFullTables (spec.arc_value run.now) (λ _.
+        IfErr result (λ e. e ≡ OutOfMemory)) }
 {
     RunScanner::culled(run.clone()?, (None, None))
 }
