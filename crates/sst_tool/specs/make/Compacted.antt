@@ -28,8 +28,8 @@ abbrev pub each_alone : List OpenTable → List (List OpenTable)
 each_alone tables = map (λ t. t ∷ []) tables
 
 -- This holds of what the rules keep of any lists with entries that the tables store.
-abbrev pub OnKept : CompactOptions → List OpenTable → (List Entry → Type 0) → Type 0
-OnKept o tables P = (lists : TableLists) → RunsHoldLists (each_alone tables) lists
+abbrev pub OnKeptEntries : CompactOptions → List OpenTable → (List Entry → Type 0) → Type 0
+OnKeptEntries o tables P = (lists : TableLists) → RunsHoldLists (each_alone tables) lists
     → AllByRecursion HaveEntries lists → P (kept_in o.rules lists)
 
 -- If the tables may be compacted, this holds of what the rules keep of any lists that they store.
@@ -43,7 +43,7 @@ pub record AreCompactedOf {A : Type 0} (o : CompactOptions) (opened : List OpenT
     (tables : List (FinishedTable A)) : Type 0 where
   pub left : Option ℕ
   pub some : WritesSome (writer_by o.tables) tables left
-  pub kept : OnKept o opened (λ es. AreWrittenBy (writer_by o.tables) es tables left)
+  pub kept : OnKeptEntries o opened (λ es. AreWrittenBy (writer_by o.tables) es tables left)
 
 -- The number of entries in the tables' metadata, at most 2^64 - 1.
 abbrev pub counted : List OpenTable → ℕ
@@ -75,7 +75,7 @@ IfOutOfOrder _ P = Unit {0}
 -- entries of all together may not follow.
 abbrev pub TellsOrder : CompactOptions → List OpenTable → ToolError → Type 0
 TellsOrder o opened e =
-    OnKept o opened (λ es. IfOutOfOrder e (LeavesOrder (writer_by o.tables) (ok_results es)))
+    OnKeptEntries o opened (λ es. IfOutOfOrder e (LeavesOrder (writer_by o.tables) (ok_results es)))
 
 -- Except for OutOfMemory the error is this one of the library, and names no file.
 abbrev pub IsRefusalWith : Option Error → ToolError → Type 0

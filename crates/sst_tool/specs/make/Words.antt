@@ -38,7 +38,8 @@ pub use Rattle.sst_tool.specs.declared.files.file_error.FileFault.TheVariants.{T
 pub use Rattle.sst_tool.specs.make.Blamed.{BlamesNone, BlamesNoneForMemory, IsBlame, KeepsRefusal}
 pub use Rattle.sst_tool.specs.make.Blamed.{MeetsFirst, MissesNone, NamesBlame, TellsOnlyOrder}
 pub use Rattle.sst_tool.specs.make.Compacted.{AreCompactedOf, HasCount, HasNoTables, IfCompactable}
-pub use Rattle.sst_tool.specs.make.Compacted.{IfOutOfOrder, OnKept, TellCount, TellsLibrary, TellsOrder}
+pub use Rattle.sst_tool.specs.make.Compacted.{IfOutOfOrder, OnKeptEntries, TellCount, TellsLibrary}
+pub use Rattle.sst_tool.specs.make.Compacted.{TellsOrder}
 pub use Rattle.sst_tool.specs.make.Compacted.{counted, each_alone}
 pub use Rattle.sst_tool.specs.make.Entries.{HasEntries, HasRows, LineSpells, LinesLaw, ReadsInputLine}
 pub use Rattle.sst_tool.specs.make.Entries.{numbered, row_entries}

@@ -161,7 +161,7 @@ fn compact_tables<A: Allocator + Copy>(
     ensures made { IfOk result (λ r. spec.HasMade (spec.writer_by options.now.tables) r.0) }
     // If the tables store lists, the new tables are those of the kept entries of all together; or
     // one of these may not follow.
-    ensures merged { spec.OnKept options.now tables.now (λ es. IfOk result (λ r.
+    ensures merged { spec.OnKeptEntries options.now tables.now (λ es. IfOk result (λ r.
         spec.CameInOrder (spec.writer_by options.now.tables) es r.0)) }
     ensures through { IfOk result (λ r. spec.GoesThrough r.0) }
     ensures count { IfOk result (λ r. spec.HasCount r.0 r.1) }
