@@ -110,13 +110,7 @@ fn write_next(
 }
 
 // Writes an entry, if its kind exists and it is in order.
-fn add_kind(
-    writer: &mut MultiWriter,
-    key: &[u8],
-    seqno: SeqNo,
-    kind: u64,
-    value: &[u8],
-) -> u32
+fn add_kind(writer: &mut MultiWriter, key: &[u8], seqno: SeqNo, kind: u64, value: &[u8]) -> u32
     ensures { spec.AddsToTables writer.old (spec.row_of kind seqno key.now value.now) result
         writer.new }
 {
@@ -241,12 +235,7 @@ fn tell_taken(
 }
 
 // Takes the oldest finished table. Memory comes first, so that no table is lost without it.
-fn take_table(
-    alloc: Global,
-    writer: &mut MultiWriter,
-    files: &mut Handle,
-    next_id: &mut u64,
-) -> u32
+fn take_table(alloc: Global, writer: &mut MultiWriter, files: &mut Handle, next_id: &mut u64) -> u32
     requires { files.old.boxed.value ≡ None }
     ensures takes { spec.TakesTable writer.old result files.new.boxed.value next_id.new writer.new }
     ensures left { result ≢ 0 →
