@@ -1,5 +1,5 @@
 -- Writing several tables as C sees it.
-use Rattle.std.specs.Prelude.{◌≡◌, ◌≢◌, ◌⊎◌, ◌∷◌, ◌++◌, [], ℕ, false, true, take, IfErr, IfOk}
+use Rattle.std.specs.Prelude.{◌≡◌, ◌≢◌, ◌⊎◌, ◌≤◌, ◌∷◌, ◌++◌, [], ℕ, false, true, length, take, IfErr, IfOk}
 use Rattle.std.specs.Prelude.{IsSomeAnd, List, None, OnErr, OnOk, Option, Some, is_some, unwrap_or}
 use Rattle.std.specs.Prelude.{Result, Ok, Err}
 use Rattle.std.specs.Global.{Global}
@@ -7,7 +7,7 @@ use Rattle.std.specs.Option.{option_to_list}
 use Rattle.std.specs.declared.vec.Vec.{Vec}
 use Rattle.sst_entries.specs.Entry.{Entry, entry}
 use Rattle.sst_entries.specs.Error.{Faults, FaultsFirst, number_of}
-use Rattle.sst_entries.specs.Strict.{IsStrict}
+use Rattle.sst_entries.specs.Strict.{IsStrict, last_of}
 use Rattle.sst_entries.specs.declared.error.Error.{Error}
 use Rattle.sst_entries.specs.declared.error.Error.TheVariants.{OutOfMemory}
 use Rattle.sst_entries.specs.declared.value_type.ValueType.{ValueType}
@@ -84,12 +84,19 @@ ReportsTaken code held next ids None = code ≡ 106
 ReportsTaken code held next ids (Some f) =
     (code ≡ 0) × HoldsNew (f ∷ []) held × (next ≡ unwrap_or ids 0)
 
--- the oldest table that was not taken is taken, which leads from the writer w to v. If out of memory,
--- the writer is unchanged
+-- one call of the library takes the oldest finished table that was not taken, if there is one, which
+-- leads from the writer w to v
+pub record IsTaken (w : TablesWriting) (t : Option (FinishedTable Global)) (v : TablesWriting) : Type 0
+  where
+    pub table : AreFinished w.present.options (first_label w) (take 1 w.tables) (option_to_list t)
+    pub left : v ≡ taken 1 w
+    pub last : last_of None (all_written v) ≡ last_of None (all_written w)
+    pub ids : length w.tables ≤ w.present.label.table_id
+
+-- the call reports the result of that call. If out of memory, the writer is unchanged
 abbrev pub TakesTable : TablesWriting → ℕ → Option Held → ℕ → TablesWriting → Type 0
 TakesTable w code held next v = ((code ≡ 1) × (v ≡ w)) ⊎ ((t : Option (FinishedTable Global))
-    × AreFinished w.present.options (first_label w) (take 1 w.tables) (option_to_list t)
-    × (v ≡ taken 1 w) × ReportsTaken code held next w.ids t)
+    × IsTaken w t v × ReportsTaken code held next w.ids t)
 
 -- a table of the writer in the object a is handed out, which leads to the object b
 pub record HandsOutTable (a : What) (code : ℕ) (held : Option Held) (next : ℕ) (b : What) : Type 0

@@ -70,7 +70,7 @@ pub use Rattle.sst_c.specs.Many.{copy_at_code, keys_cut, lend_at_code, many_kept
 pub use Rattle.sst_c.specs.Many.{queries_for}
 unfoldable pub use Rattle.sst_c.specs.Many.{AnswersMany}
 pub use Rattle.sst_c.specs.Memory.{ReportsMemory}
-pub use Rattle.sst_c.specs.MultiWriting.{AddsToTables, FinishesInto, HandsOutTable, HoldsNew}
+pub use Rattle.sst_c.specs.MultiWriting.{AddsToTables, FinishesInto, HandsOutTable, HoldsNew, IsTaken}
 pub use Rattle.sst_c.specs.MultiWriting.{ReportsFinished, ReportsTables, ReportsTaken, ReportsWriting}
 pub use Rattle.sst_c.specs.MultiWriting.{FinishesTables, TakesTable, ThroughMultiWriter}
 pub use Rattle.sst_c.specs.MultiWriting.{WritesMultiEntry, WritesTables}

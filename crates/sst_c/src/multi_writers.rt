@@ -234,6 +234,13 @@ fn tell_taken(
     0
 }
 
+// Takes the oldest finished table. It is one call of the library.
+fn taken(writer: &mut MultiWriter) -> Option<FinishedTable>
+    ensures { spec.IsTaken writer.old result writer.new }
+{
+    writer.take_finished()
+}
+
 // Takes the oldest finished table. Memory comes first, so that no table is lost without it.
 fn take_table(alloc: Global, writer: &mut MultiWriter, files: &mut Handle, next_id: &mut u64) -> u32
     requires { files.old.boxed.value ≡ None }
@@ -244,8 +251,9 @@ fn take_table(alloc: Global, writer: &mut MultiWriter, files: &mut Handle, next_
     let Ok(room) = room_for_one(alloc) else {
         return NO_MEMORY;
     };
-    let taken = writer.take_finished();
-    tell_taken(room, taken, writer.table_ids(), files, next_id)
+    let left = writer.table_ids();
+    let came = taken(writer);
+    tell_taken(room, came, left, files, next_id)
 }
 
 fn take_held(alloc: Global, held: &mut Held, files: &mut Handle, next_id: &mut u64) -> u32
