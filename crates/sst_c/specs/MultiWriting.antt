@@ -67,7 +67,7 @@ pub record AddsToTables (w : TablesWriting) (r : Row) (code : ℕ) (v : TablesWr
       → ReportsWriting w (entry r.user_key r.value r.seqno k) code v
 
 -- writing an entry through the held writer leads from the object a to b
-pub record WritesMultiEntry (r : Row) (a : What) (code : ℕ) (b : What) : Type 0 where
+pub record AddsEntry (r : Row) (a : What) (code : ℕ) (b : What) : Type 0 where
   pub adds : (w : TablesWriting) → multi_writer_in a ≡ Some w →
       IsSomeAnd (multi_writer_in b) (AddsToTables w r code)
 
@@ -99,10 +99,9 @@ TakesTable w code held next v = ((code ≡ 1) × (v ≡ w)) ⊎ ((t : Option (Fi
     × IsTaken w t v × ReportsTaken code held next w.ids t)
 
 -- a table of the writer in the object a is handed out, which leads to the object b
-pub record HandsOutTable (a : What) (code : ℕ) (held : Option Held) (next : ℕ) (b : What) : Type 0
-  where
-    pub takes : (w : TablesWriting) → multi_writer_in a ≡ Some w →
-        IsSomeAnd (multi_writer_in b) (TakesTable w code held next)
+pub record HandsOutTable (code : ℕ) (held : Option Held) (next : ℕ) (a b : What) : Type 0 where
+  pub takes : (w : TablesWriting) → multi_writer_in a ≡ Some w →
+      IsSomeAnd (multi_writer_in b) (TakesTable w code held next)
 
 -- ---- finishing
 
@@ -137,7 +136,6 @@ ReportsFinished w code held next = (r : Result (Vec (FinishedTable Global) Globa
     × FinishesTables w r × ReportsTables code held next w.ids r
 
 -- finishing the writer in the object a leads to the object b, which holds no writer, whatever the code
-pub record FinishesInto (a : What) (code : ℕ) (held : Option Held) (next : ℕ) (b : What) : Type 0
-  where
-    pub finishes : (w : TablesWriting) → multi_writer_in a ≡ Some w →
-        ReportsFinished w code held next × (b ≡ MultiWriterOf None)
+pub record FinishesInto (code : ℕ) (held : Option Held) (next : ℕ) (a b : What) : Type 0 where
+  pub finishes : (w : TablesWriting) → multi_writer_in a ≡ Some w →
+      ReportsFinished w code held next × (b ≡ MultiWriterOf None)

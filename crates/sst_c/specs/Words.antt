@@ -61,8 +61,8 @@ pub use Rattle.sst_c.specs.Copies.{CopiesEntry, LendsEntry, copy_code, laid_over
 pub use Rattle.sst_c.specs.Facts.{table_facts}
 pub use Rattle.sst_c.specs.Files.{CopiesFile, CopiesPart, TellsFile, file_at}
 unfoldable pub use Rattle.sst_c.specs.Files.{file_facts}
-pub use Rattle.sst_c.specs.Handles.{FromHeld, MakesFrom, OpensFrom, OpensHandle, OpensNew}
-pub use Rattle.sst_c.specs.Handles.{OpensNewWithin, OpensWithin, QueriesHandle, ReadsHeld}
+pub use Rattle.sst_c.specs.Handles.{FromHeld, LeadsFromHeld, MakesFrom, OpensFrom, OpensHandle}
+pub use Rattle.sst_c.specs.Handles.{OpensNew, OpensNewWithin, OpensWithin, QueriesHandle, ReadsHeld}
 pub use Rattle.sst_c.specs.Handles.{ReadsThrough, TakesThrough, UsesSource}
 pub use Rattle.sst_c.specs.Handles.{WritesThrough}
 pub use Rattle.sst_c.specs.Many.{AnswersHeld, AnswersKeys, GetsMany, GivesMany, ManyResult, answer_at}
@@ -70,10 +70,10 @@ pub use Rattle.sst_c.specs.Many.{copy_at_code, keys_cut, lend_at_code, many_kept
 pub use Rattle.sst_c.specs.Many.{queries_for}
 unfoldable pub use Rattle.sst_c.specs.Many.{AnswersMany}
 pub use Rattle.sst_c.specs.Memory.{ReportsMemory}
-pub use Rattle.sst_c.specs.MultiWriting.{AddsToTables, FinishesInto, HandsOutTable, HoldsNew, IsTaken}
-pub use Rattle.sst_c.specs.MultiWriting.{ReportsFinished, ReportsTables, ReportsTaken, ReportsWriting}
-pub use Rattle.sst_c.specs.MultiWriting.{FinishesTables, TakesTable, ThroughMultiWriter}
-pub use Rattle.sst_c.specs.MultiWriting.{WritesMultiEntry, WritesTables}
+pub use Rattle.sst_c.specs.MultiWriting.{AddsEntry, AddsToTables, FinishesInto, FinishesTables}
+pub use Rattle.sst_c.specs.MultiWriting.{HandsOutTable, HoldsNew, IsTaken, ReportsFinished}
+pub use Rattle.sst_c.specs.MultiWriting.{ReportsTables, ReportsTaken, ReportsWriting, TakesTable}
+pub use Rattle.sst_c.specs.MultiWriting.{ThroughMultiWriter, WritesTables}
 pub use Rattle.sst_c.specs.Newest.{LentNewestAt, NewestAt, newest_lent}
 pub use Rattle.sst_c.specs.Options.{are_usable, decode_default, decode_filter_kind, decode_index_kind}
 pub use Rattle.sst_c.specs.Options.{decode_options, decode_writing}

@@ -123,7 +123,7 @@ fn add_kind(writer: &mut MultiWriter, key: &[u8], seqno: SeqNo, kind: u64, value
 fn add(held: &mut Held, key: &[u8], seqno: SeqNo, kind: u64, value: &[u8]) -> u32
     ensures other { spec.multi_writer_in held.old.what ≡ None →
         (result ≡ 102) × (held.new.what ≡ held.old.what) }
-    ensures writes { spec.WritesMultiEntry (spec.row_of kind seqno key.now value.now) held.old.what
+    ensures writes { spec.AddsEntry (spec.row_of kind seqno key.now value.now) held.old.what
         result held.new.what }
     ensures found { spec.found_by held.new ≡ spec.found_by held.old }
 {
@@ -158,7 +158,7 @@ pub extern "C" fn sst_multi_writer_add(
     // It is one call of the library's writer.
     ensures writes { (h : spec.HeldValue) → writer.old.boxed.value ≡ Some h →
         IsSomeAnd writer.new.boxed.value (λ k.
-        spec.WritesMultiEntry (spec.row_of kind seqno key.now value.now) h.what result k.what) }
+        spec.AddsEntry (spec.row_of kind seqno key.now value.now) h.what result k.what) }
 {
     let Some(mut held) = writer.take(alloc) else {
         return CLOSED;
@@ -184,7 +184,7 @@ fn with_table(mut tables: Vec<FinishedTable>, table: FinishedTable) -> Vec<Finis
     requires { spec.vec_len tables < spec.vec_capacity tables }
     ensures { result.items ≡ tables.items ++ table ∷ [] }
 {
-    tables.push(table).unwrap();
+    tables.push_reserved(table);
     tables
 }
 
@@ -260,7 +260,7 @@ fn take_held(alloc: Global, held: &mut Held, files: &mut Handle, next_id: &mut u
     requires { files.old.boxed.value ≡ None }
     ensures other { spec.multi_writer_in held.old.what ≡ None →
         (result ≡ 102) × (held.new.what ≡ held.old.what) }
-    ensures takes { spec.HandsOutTable held.old.what result files.new.boxed.value next_id.new
+    ensures takes { spec.HandsOutTable result files.new.boxed.value next_id.new held.old.what
         held.new.what }
     ensures found { spec.found_by held.new ≡ spec.found_by held.old }
     ensures left { result ≢ 0 →
@@ -300,9 +300,8 @@ pub extern "C" fn sst_multi_writer_take(
     ensures through { files.old.boxed.value ≡ None →
         spec.ThroughMultiWriter writer.old.boxed.value writer.new.boxed.value result }
     // It is one call of the library's writer.
-    ensures takes { (h : spec.HeldValue) → files.old.boxed.value ≡ None →
-        writer.old.boxed.value ≡ Some h → IsSomeAnd writer.new.boxed.value (λ k.
-        spec.HandsOutTable h.what result files.new.boxed.value next_id.new k.what) }
+    ensures takes { spec.LeadsFromHeld files.old.boxed.value writer.old.boxed.value
+        writer.new.boxed.value (spec.HandsOutTable result files.new.boxed.value next_id.new) }
     ensures left { result ≢ 0 → next_id.new ≡ next_id.old }
 {
     if files.is_open() {
@@ -379,7 +378,7 @@ fn finish_held(alloc: Global, held: &mut Held, files: &mut Handle, next_id: &mut
     requires { files.old.boxed.value ≡ None }
     ensures other { spec.multi_writer_in held.old.what ≡ None →
         (result ≡ 102) × (held.new.what ≡ held.old.what) }
-    ensures finishes { spec.FinishesInto held.old.what result files.new.boxed.value next_id.new
+    ensures finishes { spec.FinishesInto result files.new.boxed.value next_id.new held.old.what
         held.new.what }
     ensures found { spec.found_by held.new ≡ spec.found_by held.old }
     ensures left { result ≢ 0 →
@@ -419,9 +418,8 @@ pub extern "C" fn sst_multi_writer_finish(
     ensures through { files.old.boxed.value ≡ None →
         spec.ThroughMultiWriter writer.old.boxed.value writer.new.boxed.value result }
     // It is one call of the library's writer.
-    ensures finishes { (h : spec.HeldValue) → files.old.boxed.value ≡ None →
-        writer.old.boxed.value ≡ Some h → IsSomeAnd writer.new.boxed.value (λ k.
-        spec.FinishesInto h.what result files.new.boxed.value next_id.new k.what) }
+    ensures finishes { spec.LeadsFromHeld files.old.boxed.value writer.old.boxed.value
+        writer.new.boxed.value (spec.FinishesInto result files.new.boxed.value next_id.new) }
     ensures left { result ≢ 0 → next_id.new ≡ next_id.old }
 {
     if files.is_open() {
