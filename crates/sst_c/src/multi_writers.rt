@@ -179,10 +179,11 @@ fn room_for_one(alloc: Global) -> Result<(Vec<FinishedTable>, Box<Held>), Error>
     Ok((tables, held))
 }
 
-// Returns the list with the table appended. It has room for it.
-fn with_table(mut tables: Vec<FinishedTable>, table: FinishedTable) -> Vec<FinishedTable>
-    requires { spec.vec_len tables < spec.vec_capacity tables }
-    ensures { result.items ≡ tables.items ++ table ∷ [] }
+// Returns the list of this table, made of an empty list that has room for it.
+fn list_of(mut tables: Vec<FinishedTable>, table: FinishedTable) -> Vec<FinishedTable>
+    requires none { tables.items ≡ [] }
+    requires room { spec.vec_len tables < spec.vec_capacity tables }
+    ensures { result.items ≡ table ∷ [] }
 {
     tables.push_reserved(table);
     tables
@@ -201,6 +202,17 @@ fn put_tables(mut held: Box<Held>, tables: Vec<FinishedTable>, files: &mut Handl
         }),
     };
     files.put(held);
+}
+
+// Puts a finished table into a closed handle. The list is empty and has room for it.
+fn put_table(room: (Vec<FinishedTable>, Box<Held>), table: FinishedTable, files: &mut Handle)
+    requires empty { files.old.boxed.value ≡ None }
+    requires none { room.0.items ≡ [] }
+    requires room { spec.vec_len room.0 < spec.vec_capacity room.0 }
+    ensures { spec.HoldsNew (table ∷ []) files.new.boxed.value }
+{
+    let (tables, held) = room;
+    put_tables(held, list_of(tables, table), files);
 }
 
 // Returns the next id, or 0 if none is left.
@@ -228,8 +240,7 @@ fn tell_taken(
     let Some(table) = taken else {
         return NOTHING;
     };
-    let (tables, held) = room;
-    put_tables(held, with_table(tables, table), files);
+    put_table(room, table, files);
     *next_id = id_or_zero(left);
     0
 }
