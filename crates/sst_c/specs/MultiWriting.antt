@@ -1,9 +1,10 @@
 -- Writing several tables as C sees it.
 use Rattle.std.specs.Prelude.{◌≡◌, ◌≢◌, ◌⊎◌, ◌≤◌, ◌∷◌, ◌++◌, [], ℕ, false, true, length, take, IfErr, IfOk}
 use Rattle.std.specs.Prelude.{IsSomeAnd, List, None, OnErr, OnOk, Option, Some, is_some, unwrap_or}
-use Rattle.std.specs.Prelude.{Result, Ok, Err}
+use Rattle.std.specs.Prelude.{Result, Ok, Err, ◌<◌}
 use Rattle.std.specs.Global.{Global}
 use Rattle.std.specs.Option.{option_to_list}
+use Rattle.std.specs.Vec.{vec_capacity, vec_len}
 use Rattle.std.specs.declared.vec.Vec.{Vec}
 use Rattle.sst_entries.specs.Entry.{Entry, entry}
 use Rattle.sst_entries.specs.Error.{Faults, FaultsFirst, number_of}
@@ -25,7 +26,7 @@ use Rattle.sst_c.specs.What.{HoldsFiles, multi_writer_in}
 use Rattle.sst_c.specs.Writing.{decode_kind}
 use Rattle.sst_c.specs.declared.held.Held.{Held}
 use Rattle.sst_c.specs.declared.held.What.{What}
-use Rattle.sst_c.specs.declared.held.What.TheVariants.{MultiWriter as MultiWriterOf}
+use Rattle.sst_c.specs.declared.held.What.TheVariants.{Files as FilesOf, MultiWriter as MultiWriterOf}
 
 -- a call writes through a handle that holds a writer of several tables. If the handle is closed or
 -- holds none, nothing is written. The entry found by the last read is unchanged
@@ -72,6 +73,12 @@ pub record AddsEntry (r : Row) (a : What) (code : ℕ) (b : What) : Type 0 where
       IsSomeAnd (multi_writer_in b) (AddsToTables w r code)
 
 -- ---- taking a table
+
+-- the object has neither a finished table nor a writer, and memory for one table
+abbrev pub HasRoomForOne : What → Type 0
+HasRoomForOne (FilesOf fs) =
+    (fs.writer ≡ None) × (fs.tables.items ≡ []) × (vec_len fs.tables < vec_capacity fs.tables)
+HasRoomForOne _ = ⊥
 
 -- the handle holds these tables alone, and has found nothing
 abbrev pub HoldsNew : List (FinishedTable Global) → Option Held → Type 0

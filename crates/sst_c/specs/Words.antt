@@ -71,9 +71,9 @@ pub use Rattle.sst_c.specs.Many.{queries_for}
 unfoldable pub use Rattle.sst_c.specs.Many.{AnswersMany}
 pub use Rattle.sst_c.specs.Memory.{ReportsMemory}
 pub use Rattle.sst_c.specs.MultiWriting.{AddsEntry, AddsToTables, FinishesInto, FinishesTables}
-pub use Rattle.sst_c.specs.MultiWriting.{HandsOutTable, HoldsNew, IsTaken, ReportsFinished}
-pub use Rattle.sst_c.specs.MultiWriting.{ReportsTables, ReportsTaken, ReportsWriting, TakesTable}
-pub use Rattle.sst_c.specs.MultiWriting.{ThroughMultiWriter, WritesTables}
+pub use Rattle.sst_c.specs.MultiWriting.{HandsOutTable, HasRoomForOne, HoldsNew, IsTaken}
+pub use Rattle.sst_c.specs.MultiWriting.{ReportsFinished, ReportsTables, ReportsTaken}
+pub use Rattle.sst_c.specs.MultiWriting.{ReportsWriting, TakesTable, ThroughMultiWriter, WritesTables}
 pub use Rattle.sst_c.specs.Newest.{LentNewestAt, NewestAt, newest_lent}
 pub use Rattle.sst_c.specs.Options.{are_usable, decode_default, decode_filter_kind, decode_index_kind}
 pub use Rattle.sst_c.specs.Options.{decode_options, decode_writing}

@@ -1,12 +1,12 @@
 //! Writing several tables, one after another.
-ghost use Rattle.std.specs.Prelude.{◌≡◌, ◌≢◌, ◌<◌, ◌∷◌, ◌++◌, ◌⊎◌, [], false, IfErr, IfOk, IsSomeAnd};
-ghost use Rattle.std.specs.Prelude.{IsTrue, None, Some, is_some, true, unwrap_or};
+ghost use Rattle.std.specs.Prelude.{◌≡◌, ◌≢◌, ◌∷◌, ◌⊎◌, [], false, IfErr, IfOk, IsSomeAnd, IsTrue};
+ghost use Rattle.std.specs.Prelude.{None, Some, is_some, true, unwrap_or};
 ghost use Rattle.sst_c.specs.Words as spec;
 
 use crate::codes::{CLOSED, NO_MEMORY, NO_SUCH, NOTHING, OPEN, OTHER_KIND, OUT_OF_ORDER};
 use crate::compactions::{compactor_of, tell_tables};
 use crate::handle::Handle;
-use crate::held::{Files, FoundEntry, Held, What, box_of};
+use crate::held::{Files, Held, What, box_of};
 use crate::options::{TableOptions, are_usable};
 use crate::writers::kind_of;
 use lsm_writers::{FinishedTable, MultiWriter, TableIds};
@@ -143,8 +143,8 @@ fn add(held: &mut Held, key: &[u8], seqno: SeqNo, kind: u64, value: &[u8]) -> u3
 /// - 104: the entry is not in order after the last one, or its sequence number is `u64::MAX`.
 /// - An error code of `MultiWriter::write`. Each later entry fails too.
 ///
-/// With the first four codes the writer is unchanged. After the others the finished tables can still
-/// be taken, and the unfinished one is lost.
+/// With the first four codes the writer is unchanged. After the others the unfinished table is
+/// lost, and the finished ones can still be taken.
 #[unsafe(no_mangle)]
 pub extern "C" fn sst_multi_writer_add(
     alloc: Global,
@@ -168,51 +168,40 @@ pub extern "C" fn sst_multi_writer_add(
     code
 }
 
-// Memory for a handle that holds one finished table.
-fn room_for_one(alloc: Global) -> Result<(Vec<FinishedTable>, Box<Held>), Error>
-    ensures empty { IfOk result (λ r. r.0.items ≡ []) }
-    ensures room { IfOk result (λ r. spec.vec_len r.0 < spec.vec_capacity r.0) }
+// Boxes an object without a table that has memory for one.
+fn room_for_one(alloc: Global) -> Result<Box<Held>, Error>
+    ensures found { IfOk result (λ room. room.value.found ≡ spec.Kept None) }
+    ensures room { IfOk result (λ room. spec.HasRoomForOne room.value.what) }
     ensures err { IfErr result (λ e. e ≡ spec.OutOfMemory) }
 {
     let tables = Vec::with_capacity(alloc, 1)?;
-    let held = box_of(alloc, What::MultiWriter(None))?;
-    Ok((tables, held))
-}
-
-// Returns the list of this table, made of an empty list that has room for it.
-fn list_of(mut tables: Vec<FinishedTable>, table: FinishedTable) -> Vec<FinishedTable>
-    requires none { tables.items ≡ [] }
-    requires room { spec.vec_len tables < spec.vec_capacity tables }
-    ensures { result.items ≡ table ∷ [] }
-{
-    tables.push_reserved(table);
-    tables
-}
-
-// Puts finished tables into a closed handle, in this box.
-fn put_tables(mut held: Box<Held>, tables: Vec<FinishedTable>, files: &mut Handle)
-    requires { files.old.boxed.value ≡ None }
-    ensures { spec.HoldsNew tables.items files.new.boxed.value }
-{
-    *held = Held {
-        found: FoundEntry::Kept(None),
-        what: What::Files(Files {
-            writer: None,
-            tables,
-        }),
+    let files = Files {
+        writer: None,
+        tables,
     };
-    files.put(held);
+    box_of(alloc, What::Files(files))
 }
 
-// Puts a finished table into a closed handle. The list is empty and has room for it.
-fn put_table(room: (Vec<FinishedTable>, Box<Held>), table: FinishedTable, files: &mut Handle)
+// Adds a finished table. There is memory for it.
+fn add_table(room: &mut What, table: FinishedTable)
+    requires { spec.HasRoomForOne room.old }
+    ensures { spec.HoldsFiles (table ∷ []) room.new }
+{
+    let What::Files(files) = room else {
+        return;
+    };
+    files.tables.push_reserved(table);
+}
+
+// Puts a finished table into a closed handle. There is memory for it.
+fn put_table(mut room: Box<Held>, table: FinishedTable, files: &mut Handle)
     requires empty { files.old.boxed.value ≡ None }
-    requires none { room.0.items ≡ [] }
-    requires room { spec.vec_len room.0 < spec.vec_capacity room.0 }
+    requires found { room.value.found ≡ spec.Kept None }
+    requires room { spec.HasRoomForOne room.value.what }
     ensures { spec.HoldsNew (table ∷ []) files.new.boxed.value }
 {
-    let (tables, held) = room;
-    put_tables(held, list_of(tables, table), files);
+    add_table(&mut room.what, table);
+    files.put(room);
 }
 
 // Returns the next id, or 0 if none is left.
@@ -222,17 +211,17 @@ fn id_or_zero(mut ids: TableIds) -> u64
     ids.next().unwrap_or(0)
 }
 
-// Puts the taken table into a closed handle, if there is one. The list has room for it.
+// Puts the taken table into a closed handle, if there is one. There is memory for it.
 fn tell_taken(
-    room: (Vec<FinishedTable>, Box<Held>),
+    room: Box<Held>,
     taken: Option<FinishedTable>,
     left: TableIds,
     files: &mut Handle,
     next_id: &mut u64,
 ) -> u32
     requires empty { files.old.boxed.value ≡ None }
-    requires none { room.0.items ≡ [] }
-    requires room { spec.vec_len room.0 < spec.vec_capacity room.0 }
+    requires found { room.value.found ≡ spec.Kept None }
+    requires room { spec.HasRoomForOne room.value.what }
     ensures returned { spec.ReportsTaken result files.new.boxed.value next_id.new left taken }
     ensures left { result ≢ 0 →
         (next_id.new ≡ next_id.old) × (files.new.boxed.value ≡ None) }
@@ -285,9 +274,9 @@ fn take_held(alloc: Global, held: &mut Held, files: &mut Handle, next_id: &mut u
 
 /// Takes the oldest finished table that was not taken.
 ///
-/// `files` must be closed; it then holds this one table. `next_id` gets the id of the table after the
-/// unfinished one, or 0 if none is left. Tables can be taken between any two calls, also after an
-/// error of `sst_multi_writer_add`.
+/// `files` must be closed; it then holds this one table. `next_id` gets the id of the table after
+/// the unfinished one, or 0 if none is left. Tables can be taken between any two calls, also after
+/// an error of `sst_multi_writer_add`.
 ///
 /// # Errors
 ///
