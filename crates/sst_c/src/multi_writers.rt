@@ -1,6 +1,6 @@
 //! Writing several tables, one after another.
-ghost use Rattle.std.specs.Prelude.{◌≡◌, ◌≢◌, ◌∷◌, ◌⊎◌, [], false, IfErr, IfOk, IsSomeAnd, IsTrue};
-ghost use Rattle.std.specs.Prelude.{None, Some, is_some, true, unwrap_or};
+ghost use Rattle.std.specs.Prelude.{◌≡◌, ◌≢◌, ◌<◌, ◌∷◌, ◌⊎◌, [], false, IfErr, IfOk, IsSomeAnd};
+ghost use Rattle.std.specs.Prelude.{IsTrue, None, Some, is_some, true, unwrap_or};
 ghost use Rattle.sst_c.specs.Words as spec;
 
 use crate::codes::{CLOSED, NO_MEMORY, NO_SUCH, NOTHING, OPEN, OTHER_KIND, OUT_OF_ORDER};
@@ -182,7 +182,19 @@ fn room_for_one(alloc: Global) -> Result<Box<Held>, Error>
     box_of(alloc, What::Files(files))
 }
 
-// Adds a finished table. There is memory for it.
+// Adds the first finished table. There is memory for it.
+#[tactic(auto, using(crate::proofs::MultiWriting::after_none))]
+fn add_first(files: &mut Files, table: FinishedTable)
+    requires writer { files.old.writer ≡ None }
+    requires none { files.old.tables.items ≡ [] }
+    requires room { spec.vec_len files.old.tables < spec.vec_capacity files.old.tables }
+    ensures writer { files.new.writer ≡ None }
+    ensures table { files.new.tables.items ≡ table ∷ [] }
+{
+    files.tables.push_reserved(table);
+}
+
+// Adds a finished table to an object that has memory for one.
 fn add_table(room: &mut What, table: FinishedTable)
     requires { spec.HasRoomForOne room.old }
     ensures { spec.HoldsFiles (table ∷ []) room.new }
@@ -190,7 +202,7 @@ fn add_table(room: &mut What, table: FinishedTable)
     let What::Files(files) = room else {
         return;
     };
-    files.tables.push_reserved(table);
+    add_first(files, table);
 }
 
 // Puts a finished table into a closed handle. There is memory for it.
