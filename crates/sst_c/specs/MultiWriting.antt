@@ -1,5 +1,5 @@
 -- Writing several tables as C sees it.
-use Rattle.std.specs.Prelude.{◌≡◌, ◌≢◌, ◌⊎◌, ◌≤◌, ◌∷◌, ◌++◌, [], ℕ, false, true, length, take, IfErr, IfOk}
+use Rattle.std.specs.Prelude.{◌≡◌, ◌⊎◌, ◌≤◌, ◌∷◌, ◌++◌, [], ℕ, false, true, length, take, IfErr, IfOk}
 use Rattle.std.specs.Prelude.{IsSomeAnd, List, None, OnErr, OnOk, Option, Some, is_some, unwrap_or}
 use Rattle.std.specs.Prelude.{Result, Ok, Err, ◌<◌}
 use Rattle.std.specs.Global.{Global}
