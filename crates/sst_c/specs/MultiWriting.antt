@@ -39,7 +39,7 @@ pub record ThroughMultiWriter (handle after : Option Held) (code : ℕ) : Type 0
 -- ---- adding an entry
 
 -- one call of the library writes an entry that is in order, and takes the writer from w to v
-pub record WritesTables (w : TablesWriting) (e : Entry) (r : Result (Unit {0}) Error)
+pub record WritesToTables (w : TablesWriting) (e : Entry) (r : Result (Unit {0}) Error)
     (v : TablesWriting) : Type 0 where
   pub ok : OnOk r (v ≡ took w e)
   pub listed : OnOk r (all_written v ≡ all_written w ++ e ∷ [])
@@ -56,7 +56,7 @@ pub record WritesTables (w : TablesWriting) (e : Entry) (r : Result (Unit {0}) E
 -- the call reports some result of that call
 abbrev pub ReportsWriting : TablesWriting → Entry → ℕ → TablesWriting → Type 0
 ReportsWriting w e code v =
-    (r : Result (Unit {0}) Error) × WritesTables w e r v × (code ≡ result_code r)
+    (r : Result (Unit {0}) Error) × WritesToTables w e r v × (code ≡ result_code r)
 
 -- `sst_multi_writer_add` of an entry returns a code and takes a writer from w to v
 pub record AddsToTables (w : TablesWriting) (r : Row) (code : ℕ) (v : TablesWriting) : Type 0 where
@@ -68,7 +68,7 @@ pub record AddsToTables (w : TablesWriting) (r : Row) (code : ℕ) (v : TablesWr
       → ReportsWriting w (entry r.user_key r.value r.seqno k) code v
 
 -- writing an entry through the held writer leads from the object a to b
-pub record AddsEntry (r : Row) (a : What) (code : ℕ) (b : What) : Type 0 where
+pub record AddsToHeld (r : Row) (a : What) (code : ℕ) (b : What) : Type 0 where
   pub adds : (w : TablesWriting) → multi_writer_in a ≡ Some w →
       IsSomeAnd (multi_writer_in b) (AddsToTables w r code)
 
@@ -93,17 +93,17 @@ ReportsTaken code held next ids (Some f) =
 
 -- one call of the library takes the oldest finished table that was not taken, if there is one, which
 -- leads from the writer w to v
-pub record IsTaken (w : TablesWriting) (t : Option (FinishedTable Global)) (v : TablesWriting) : Type 0
-  where
-    pub table : AreFinished w.present.options (first_label w) (take 1 w.tables) (option_to_list t)
-    pub left : v ≡ taken 1 w
-    pub last : last_of None (all_written v) ≡ last_of None (all_written w)
-    pub ids : length w.tables ≤ w.present.label.table_id
+pub record TakesOldest (w : TablesWriting) (t : Option (FinishedTable Global)) (v : TablesWriting)
+    : Type 0 where
+  pub table : AreFinished w.present.options (first_label w) (take 1 w.tables) (option_to_list t)
+  pub left : v ≡ taken 1 w
+  pub last : last_of None (all_written v) ≡ last_of None (all_written w)
+  pub ids : length w.tables ≤ w.present.label.table_id
 
 -- the call reports the result of that call. If out of memory, the writer is unchanged
 abbrev pub TakesTable : TablesWriting → ℕ → Option Held → ℕ → TablesWriting → Type 0
 TakesTable w code held next v = ((code ≡ 1) × (v ≡ w)) ⊎ ((t : Option (FinishedTable Global))
-    × IsTaken w t v × ReportsTaken code held next w.ids t)
+    × TakesOldest w t v × ReportsTaken code held next w.ids t)
 
 -- a table of the writer in the object a is handed out, which leads to the object b
 pub record HandsOutTable (code : ℕ) (held : Option Held) (next : ℕ) (a b : What) : Type 0 where
@@ -142,7 +142,7 @@ abbrev pub ReportsFinished : TablesWriting → ℕ → Option Held → ℕ → T
 ReportsFinished w code held next = (r : Result (Vec (FinishedTable Global) Global) Error)
     × FinishesTables w r × ReportsTables code held next w.ids r
 
--- finishing the writer in the object a leads to the object b, which holds no writer, whatever the code
+-- finishing the writer in the object a leads to the object b, which holds no writer after any code
 pub record FinishesInto (code : ℕ) (held : Option Held) (next : ℕ) (a b : What) : Type 0 where
   pub finishes : (w : TablesWriting) → multi_writer_in a ≡ Some w →
       ReportsFinished w code held next × (b ≡ MultiWriterOf None)

@@ -70,10 +70,10 @@ pub use Rattle.sst_c.specs.Many.{copy_at_code, keys_cut, lend_at_code, many_kept
 pub use Rattle.sst_c.specs.Many.{queries_for}
 unfoldable pub use Rattle.sst_c.specs.Many.{AnswersMany}
 pub use Rattle.sst_c.specs.Memory.{ReportsMemory}
-pub use Rattle.sst_c.specs.MultiWriting.{AddsEntry, AddsToTables, FinishesInto, FinishesTables}
-pub use Rattle.sst_c.specs.MultiWriting.{HandsOutTable, HasRoomForOne, HoldsNew, IsTaken}
-pub use Rattle.sst_c.specs.MultiWriting.{ReportsFinished, ReportsTables, ReportsTaken}
-pub use Rattle.sst_c.specs.MultiWriting.{ReportsWriting, TakesTable, ThroughMultiWriter, WritesTables}
+pub use Rattle.sst_c.specs.MultiWriting.{AddsToHeld, AddsToTables, FinishesInto, FinishesTables}
+pub use Rattle.sst_c.specs.MultiWriting.{HandsOutTable, HasRoomForOne, HoldsNew, ReportsFinished}
+pub use Rattle.sst_c.specs.MultiWriting.{ReportsTables, ReportsTaken, ReportsWriting, TakesOldest}
+pub use Rattle.sst_c.specs.MultiWriting.{TakesTable, ThroughMultiWriter, WritesToTables}
 pub use Rattle.sst_c.specs.Newest.{LentNewestAt, NewestAt, newest_lent}
 pub use Rattle.sst_c.specs.Options.{are_usable, decode_default, decode_filter_kind, decode_index_kind}
 pub use Rattle.sst_c.specs.Options.{decode_options, decode_writing}

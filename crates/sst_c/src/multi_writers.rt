@@ -69,7 +69,7 @@ pub extern "C" fn sst_multi_writer_open(
 fn written(writer: &mut MultiWriter, entry: &EntryRef<'_>) -> Result<(), Error>
     requires { let e = spec.entry_of_ref entry.now in
         IsTrue (spec.may_be_written (spec.all_written writer.old) e.user_key e.seqno) }
-    ensures { spec.WritesTables writer.old (spec.entry_of_ref entry.now) result writer.new }
+    ensures { spec.WritesToTables writer.old (spec.entry_of_ref entry.now) result writer.new }
 {
     writer.write_ref(entry)
 }
@@ -123,7 +123,7 @@ fn add_kind(writer: &mut MultiWriter, key: &[u8], seqno: SeqNo, kind: u64, value
 fn add(held: &mut Held, key: &[u8], seqno: SeqNo, kind: u64, value: &[u8]) -> u32
     ensures other { spec.multi_writer_in held.old.what ≡ None →
         (result ≡ 102) × (held.new.what ≡ held.old.what) }
-    ensures writes { spec.AddsEntry (spec.row_of kind seqno key.now value.now) held.old.what
+    ensures writes { spec.AddsToHeld (spec.row_of kind seqno key.now value.now) held.old.what
         result held.new.what }
     ensures found { spec.found_by held.new ≡ spec.found_by held.old }
 {
@@ -158,7 +158,7 @@ pub extern "C" fn sst_multi_writer_add(
     // It is one call of the library's writer.
     ensures writes { (h : spec.HeldValue) → writer.old.boxed.value ≡ Some h →
         IsSomeAnd writer.new.boxed.value (λ k.
-        spec.AddsEntry (spec.row_of kind seqno key.now value.now) h.what result k.what) }
+        spec.AddsToHeld (spec.row_of kind seqno key.now value.now) h.what result k.what) }
 {
     let Some(mut held) = writer.take(alloc) else {
         return CLOSED;
@@ -248,7 +248,7 @@ fn tell_taken(
 
 // Takes the oldest finished table. It is one call of the library.
 fn taken(writer: &mut MultiWriter) -> Option<FinishedTable>
-    ensures { spec.IsTaken writer.old result writer.new }
+    ensures { spec.TakesOldest writer.old result writer.new }
 {
     writer.take_finished()
 }
