@@ -625,6 +625,65 @@ uint32_t sst_writer_add_many(sst_handle *writer, const sst_entry *entries, size_
  */
 uint32_t sst_writer_finish(sst_handle *writer);
 
+/* Writing several tables, one after another. */
+
+/* Opens a writer that starts a new table when the current one is full, into a handle that holds
+ * nothing. A new table starts at the next key once the data blocks of the current one have
+ * `target_size` bytes. With UINT64_MAX there is one table, with 0 each key has a table of its own.
+ * No key is in two tables.
+ *
+ * The tables are written with `options`. The first one has the id `options->id`, or the id after it
+ * if `target_size` is 0. Each further table has the next id. `options->id` counts as used even if
+ * no table is written.
+ *
+ * Errors: SST_NO_SUCH if an option is out of range, as for `sst_writer_open`.
+ */
+uint32_t sst_multi_writer_open(const sst_options *options, uint64_t target_size,
+                               sst_handle *writer);
+
+/* Writes an entry as `sst_writer_add` does. If the next table is due, the call first finishes the
+ * current one and uses the id of the next.
+ *
+ * SST_OUT_OF_ORDER and SST_NO_SUCH leave the writer as it is, as for `sst_writer_add`. After these
+ * errors the writer has failed:
+ *
+ * - SST_TABLE_IDS_SPENT if a table is due and no id is left;
+ * - the errors of `sst_writer_finish` for the current table, if a table is due;
+ * - the errors of `sst_writer_add`.
+ *
+ * The entries of the unfinished table are lost then. The finished tables can still be taken by
+ * `sst_multi_writer_take`. A failed writer returns SST_WRITER_FAILED for each further entry, unless
+ * SST_NO_SUCH applies or the sequence number is UINT64_MAX.
+ */
+uint32_t sst_multi_writer_add(sst_handle *writer, const uint8_t *key, size_t key_len,
+                              uint64_t seqno, uint32_t kind, const uint8_t *value,
+                              size_t value_len);
+
+/* Stores the oldest finished table that was not taken in `files`, a handle that holds nothing.
+ * `next_id` is set to the first unused id, or to 0 if none is left. The table that is being written
+ * has used its id. Tables can be taken between any two calls, also after an error of
+ * `sst_multi_writer_add`. The taken tables, followed by those of `sst_multi_writer_finish`, are the
+ * tables of a writer from which none is taken.
+ *
+ * Errors: SST_NOTHING if every finished table was taken. No error loses a table.
+ */
+uint32_t sst_multi_writer_take(sst_handle *writer, sst_handle *files, uint64_t *next_id);
+
+/* Finishes the current table, and stores all tables that were not taken in `files`, a handle that
+ * holds nothing. There are none if nothing was written. `next_id` is set to the first unused id, or
+ * to 0 if none is left. The handle of the writer then holds no writer.
+ *
+ * Errors:
+ *
+ * - SST_WRITER_FAILED if the writer has failed;
+ * - SST_BLOCK_TOO_LARGE or SST_SECTION_TOO_LARGE, as for `sst_writer_finish`.
+ *
+ * After one of these errors, or out of memory, the handle of the writer holds no writer either. The
+ * tables that were not taken are lost: take them first. `files` then holds nothing, and `next_id`
+ * stays.
+ */
+uint32_t sst_multi_writer_finish(sst_handle *writer, sst_handle *files, uint64_t *next_id);
+
 /* Compaction. */
 
 /* Merges all entries of a list of runs into new tables, and drops those that no reader needs. It
@@ -709,7 +768,7 @@ typedef struct sst_file {
 } sst_file;
 
 /* Reports the number of finished tables. A writer that is not finished, or that wrote nothing, has
- * none. A writer finishes one table, a compaction any number.
+ * none. A writer finishes one table, a writer of several tables and a compaction any number.
  */
 uint32_t sst_files_count(sst_handle *files, uint64_t *count);
 

@@ -2,6 +2,7 @@
  * under valgrind. It prints what failed, and returns 1 then.
  */
 #include "bulk.h"
+#include "multi.h"
 #include "steps.h"
 #include "verify.h"
 
@@ -855,6 +856,7 @@ static void test_table(const sst_options *options, int n, size_t piece, bool pin
     test_steps_out_of_order(options);
     test_damage(file, len, count_of(n));
   }
+  test_multi(options, n);
   free(file); /* the table has a copy of its own */
   test_range(&table, n);
   sst_close(&table);

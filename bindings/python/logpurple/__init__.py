@@ -28,6 +28,8 @@ b'green'
 - `Writer` writes a table, and `compact` merges several into new ones. Both return `FinishedTable`,
   which is `bytes` with an `id` and a `checksum`. Its `save`, and `Writer.finish_to`, write a file.
   `compact_each` yields each new table as soon as it is finished.
+- `MultiWriter` cuts its entries into tables of a target size. Its `take` returns each while it
+  writes on.
 - `Entry`, `Facts`, `Memory`, `Packing`, `Verified`, `Finding` and `WrittenFile` are named tuples.
 - Errors are exceptions of the class `TableError`. `Table.verify` raises `Faulty`.
 - `NEWEST` is the largest sequence number, and the default snapshot.
@@ -53,14 +55,15 @@ from ._records import (NEWEST, Entry, Facts, Fault, Finding, Kind, Memory, Packi
 from ._resources import BytesLike
 from ._tables import Runs, Table
 from ._views import Items, Keys, Values
-from ._writing import Compacted, Compaction, FinishedTable, Writer, compact, compact_each
+from ._writing import (Compacted, Compaction, FinishedTable, MultiWriter, Writer, compact,
+                       compact_each)
 
 __version__ = "4.0.0"
 
 __all__ = ["NEWEST", "BytesLike", "Compacted", "Compaction", "Entries", "Entry", "Facts", "Fault",
-           "Finding", "FinishedTable", "Items", "Keys", "Kind", "Memory", "Packing", "Runs", "Scan",
-           "Section", "Table", "Values", "Verified", "WrittenFile", "Writer", "compact",
-           "compact_each"]
+           "Finding", "FinishedTable", "Items", "Keys", "Kind", "Memory", "MultiWriter", "Packing",
+           "Runs", "Scan", "Section", "Table", "Values", "Verified", "WrittenFile", "Writer",
+           "compact", "compact_each"]
 __all__ += _errors.__all__
 
 # The names of the package are the public ones, as errors and `help` show them.

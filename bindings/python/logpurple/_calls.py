@@ -204,6 +204,10 @@ writer_open = _declare("sst_writer_open", POINTER(Options), _handle)
 writer_add = _declare("sst_writer_add", _handle, *_bytes, c_uint64, c_uint32, *_bytes)
 writer_add_many = _declare("sst_writer_add_many", _handle, *_array, *_bytes, POINTER(c_uint64))
 writer_finish = _declare("sst_writer_finish", _handle)
+multi_writer_open = _declare("sst_multi_writer_open", POINTER(Options), c_uint64, _handle)
+multi_writer_add = _declare("sst_multi_writer_add", _handle, *_bytes, c_uint64, c_uint32, *_bytes)
+multi_writer_take = _declare("sst_multi_writer_take", _handle, _handle, POINTER(c_uint64))
+multi_writer_finish = _declare("sst_multi_writer_finish", _handle, _handle, POINTER(c_uint64))
 compact = _declare("sst_compact", _handle, POINTER(Options), c_uint64, c_bool, c_bool, c_uint64,
                    _handle, POINTER(c_uint64))
 compaction_open = _declare("sst_compaction_open", _handle, POINTER(Options), c_uint64, c_bool,

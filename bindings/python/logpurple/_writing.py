@@ -6,10 +6,11 @@ import array
 import ctypes
 import itertools
 from ctypes import byref
-from typing import Iterable, Iterator, List, NoReturn, Optional, Tuple, TypeVar, Union
+from typing import (Callable, Iterable, Iterator, List, NoReturn, Optional, Tuple, TypeVar,
+                    Union)
 
 from . import _calls
-from ._errors import Closed, Nothing
+from ._errors import AlreadyOpen, Closed, Nothing
 from ._files import Path, save
 from ._records import NEWEST, Kind, WrittenFile
 from ._resources import BytesLike, Resource, Returned, number, plain
@@ -32,7 +33,7 @@ def _options(*values: int) -> _calls.Options:
 
 
 class FinishedTable(bytes):
-    """The bytes of a table, which `Writer.finish`, `compact` and `compact_each` return.
+    """The bytes of a table, which writers, `compact` and `compact_each` return.
 
     `id`: the id of the table.
     `checksum`: the FNV-1a hash of all bytes, which is not part of them.
@@ -111,6 +112,14 @@ def _pieces(files: Resource, index: int) -> Iterator[bytes]:
         offset += count.value
 
 
+# Writes an entry through a writer, by one of the calls that do so.
+def _add(writer: Resource, call: Callable[..., int], key: BytesLike, value: BytesLike, seqno: int,
+         kind: int) -> None:
+    key, seqno, kind = plain(key), number(seqno), number(kind, 32)
+    with _calls.Borrowed(value) as (address, length), writer._turn:
+        writer._check(call(writer._ref, key, len(key), seqno, kind, address, length))
+
+
 class Writer(Resource):
     """Writes a table: its entries in order, and then `finish`, which returns its bytes, or
     `finish_to`, which writes them to a file.
@@ -181,10 +190,7 @@ class Writer(Resource):
         >>> Table.open(writer.finish()).entry_count
         2
         """
-        key, seqno, kind_number = plain(key), number(seqno), number(kind, 32)
-        with _calls.Borrowed(value) as (address, length), self._turn:
-            self._check(_calls.writer_add(self._ref, key, len(key), seqno, kind_number, address,
-                                          length))
+        _add(self, _calls.writer_add, key, value, seqno, kind)
 
     def add_many(self, entries: Iterable[Tuple[BytesLike, BytesLike]], seqno: int = 0,
                  kind: Kind = Kind.VALUE) -> None:
@@ -271,6 +277,161 @@ class Writer(Resource):
                                    found.len)
             finally:
                 self._release()
+
+    def _parts(self) -> List[str]:
+        return super()._parts() + [f"id={self._id}"]
+
+
+class MultiWriter(Resource):
+    """Writes several tables, one after another: their entries in order, and then `finish`.
+
+    `take` returns each finished table while the writer goes on, so that memory holds only the table
+    that is being written. No key is in two tables. A writer that is closed before `finish`, as by
+    `with`, drops the tables that were not taken.
+
+    `target`: a new table starts at the next key once the data blocks of the current one have this
+    size in bytes. If it is 0, each key has a table of its own.
+    `id`: the id of the first table; the ids after it ascend by one. If `target` is 0, the first
+    table has the id after it. It is used up even if nothing is written.
+    `next_id`: the first id that no table has, the one that is being written included; `None` if no
+    id is left. Only `finish`, and `take` when it returns a table, update it.
+
+    The other options, and their errors, are those of `Writer`.
+
+    >>> with MultiWriter(0, id=3) as writer:
+    ...     for key in (b"a", b"b", b"c"):
+    ...         writer.add(key, b"")
+    ...         print([file.id for file in iter(writer.take, None)])
+    ...     print([file.id for file in writer.finish()], writer.next_id)
+    []
+    [4]
+    [5]
+    [6] 7
+    """
+
+    next_id: Optional[int]
+    _id: Optional[int] = None
+
+    def __init__(self, target: int, *, id: int = 0, created_at: int = 0, level: int = 0,
+                 data_block_size: int = 4096, data_block_restart_interval: int = 16,
+                 data_block_hash_ratio: int = 0, index_partition_size: int = 0,
+                 filter_partition_size: int = 0, filter_bits_per_key: int = 100) -> None:
+        """Begins the first table. The class has the options."""
+        super().__init__()
+        # Holds a table from the call that takes it until it is copied.
+        self._taken = Resource()
+        target = number(target)
+        options = _options(id, created_at, level, data_block_size, data_block_restart_interval,
+                           data_block_hash_ratio, index_partition_size, filter_partition_size,
+                           filter_bits_per_key)
+        self._id = options.id
+        self.next_id = options.id + 1 if options.id < NEWEST else None
+        self._check(_calls.multi_writer_open(byref(options), target, self._ref))
+
+    def add(self, key: BytesLike, value: BytesLike, seqno: int = 0,
+            kind: Kind = Kind.VALUE) -> None:
+        """Writes an entry as `Writer.add` does, and first begins the next table if one is due.
+
+        Raises the errors of `Writer.add`. If a table is due, it also raises `TableIdsSpent` if no
+        id is left, and `BlockTooLarge` or `SectionTooLarge` if the index or the filter of the
+        current table is too large.
+
+        After `OutOfOrder` and `NoSuch` the writer stays as it was. After any other error it has
+        failed, and the unfinished table is lost. Finished tables can still be taken.
+
+        >>> writer = MultiWriter(1 << 20)
+        >>> writer.add(b"a", b"1", seqno=2)
+        >>> writer.add(b"a", b"", seqno=3)
+        Traceback (most recent call last):
+        ..
+        logpurple.OutOfOrder: an entry is out of order (104)
+        """
+        _add(self, _calls.multi_writer_add, key, value, seqno, kind)
+
+    def add_many(self, entries: Iterable[Tuple[BytesLike, BytesLike]], seqno: int = 0,
+                 kind: Kind = Kind.VALUE) -> None:
+        """Writes many keys with their values, all with one sequence number and of one kind.
+
+        It calls `add` for each. The entries before the first that fails are written.
+
+        >>> writer = MultiWriter(0)
+        >>> writer.add_many((b"%d" % digit, b"") for digit in range(10))
+        >>> len(writer.finish())
+        10
+        """
+        for key, value in entries:
+            self.add(key, value, seqno, kind)
+
+    def delete(self, key: BytesLike, seqno: int = 0) -> None:
+        """Writes a deletion of every older version of a key. It raises the errors of `add`.
+
+        >>> writer = MultiWriter(0)
+        >>> writer.delete(b"a")
+        >>> [b"a" in Table.open(file) for file in writer.finish()]
+        [False]
+        """
+        self.add(key, b"", seqno, Kind.TOMBSTONE)
+
+    def take(self) -> Optional[FinishedTable]:
+        """Returns the oldest finished table that was not taken, or `None` if there is none yet.
+
+        Tables can be taken between any two calls, also after `add` failed. No error loses a table.
+        `iter(writer.take, None)` yields all that are finished so far.
+
+        >>> writer = MultiWriter(0)
+        >>> writer.add(b"a", b"1")
+        >>> writer.take() is None
+        True
+        >>> writer.add(b"b", b"2")
+        >>> [list(Table.open(file).items()) for file in iter(writer.take, None)]
+        [[(b'a', b'1')]]
+        """
+        next_id = ctypes.c_uint64()
+        with self._turn:
+            code = _calls.multi_writer_take(self._ref, self._taken._ref, byref(next_id))
+            if code == Nothing.code:
+                return None
+            # If it is open, it holds a table that was taken before, and whose copy failed.
+            if code != AlreadyOpen.code:
+                self._check(code)
+                self.next_id = next_id.value or None
+            file = _file(self._taken, 0)
+            _calls.close(self._taken._ref)
+            return file
+
+    def finish(self) -> List[FinishedTable]:
+        """Returns the tables that were not taken, in key order. There are none without an entry.
+
+        The writer is closed then, also if this fails: the tables that were not taken are lost.
+        Raises `WriterFailed` if the writer has failed, and else the errors of `Writer.finish`.
+
+        >>> MultiWriter(0).finish()
+        []
+        >>> writer = MultiWriter(0, id=4)
+        >>> writer.add_many([(b"a", b""), (b"b", b"")])
+        >>> [file.id for file in writer.finish()]
+        [5, 6]
+        """
+        files, next_id = Resource(), ctypes.c_uint64()
+        with files, self._turn:
+            try:
+                self._check(_calls.multi_writer_finish(self._ref, files._ref, byref(next_id)))
+                self.next_id = next_id.value or None
+                return self._uncopied() + _files(files)
+            finally:
+                self._release()
+
+    # A table that was taken, and whose copy failed.
+    def _uncopied(self) -> List[FinishedTable]:
+        count = ctypes.c_uint64()
+        if _calls.files_count(self._taken._ref, byref(count)) == Closed.code:
+            return []
+        return _files(self._taken)
+
+    def _release(self) -> None:
+        super()._release()
+        if hasattr(self, "_taken"):
+            self._taken._release()
 
     def _parts(self) -> List[str]:
         return super()._parts() + [f"id={self._id}"]

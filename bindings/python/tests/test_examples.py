@@ -43,7 +43,7 @@ def public():
 
 # The classes with an example, and those of them whose members need none.
 WITH_EXAMPLE = ("Table", "Runs", "Writer", "Entries", "Scan", "Keys", "Values", "Items", "Kind",
-                "TableError", "FinishedTable", "Compaction")
+                "TableError", "FinishedTable", "Compaction", "MultiWriter")
 SHOWN_BY_CLASS = ("Keys", "Values", "Items", "Kind")
 
 

@@ -18,8 +18,8 @@ from common import entries_of, file_of, seen, small, table_of
 from twice import HAS_READER, outcome, read, read_again
 
 import logpurple
-from logpurple import (NEWEST, Fault, Kind, Runs, Section, Table, TableError, Writer, _calls,
-                       compact, compact_each)
+from logpurple import (NEWEST, Fault, Kind, MultiWriter, Runs, Section, Table, TableError, Writer,
+                       _calls, compact, compact_each)
 
 
 @unittest.skipUnless(HAS_READER, "the second reader is not here")
@@ -162,7 +162,7 @@ class Misuse(unittest.TestCase):
         defaults = _calls.Options()
         _calls.options_default(ctypes.byref(defaults))
         wanted = [(name, getattr(defaults, name)) for name, _ in _calls.Options._fields_[:-1]]
-        for call in (Writer, compact, compact_each):
+        for call in (Writer, MultiWriter, compact, compact_each):
             parameters = list(inspect.signature(call).parameters.values())[-len(wanted):]
             self.assertEqual([(each.name, each.default) for each in parameters], wanted)
             self.assertEqual({each.kind for each in parameters}, {inspect.Parameter.KEYWORD_ONLY})
@@ -201,7 +201,8 @@ class Misuse(unittest.TestCase):
 
     def test_what_is_opened_is_not_copied(self):
         table = table_of(entries_of(7, 3))
-        for held in (table, table.entries(), table.scan(), Runs(table), Writer(), table._handle):
+        for held in (table, table.entries(), table.scan(), Runs(table), Writer(), MultiWriter(0),
+                     table._handle):
             for copied in (copy.copy, copy.deepcopy, pickle.dumps):
                 with self.assertRaises(TypeError):
                     copied(held)
@@ -235,7 +236,9 @@ class Misuse(unittest.TestCase):
                      lambda: Table.entries(writer), lambda: Table.verify(writer),
                      lambda: Table.verify(writer, checksum=0),
                      lambda: Table.scan(writer), lambda: Table.memory(writer),
-                     lambda: Table._find(writer, [b"a"], 1), lambda: Writer.add(table, b"a", b"")):
+                     lambda: Table._find(writer, [b"a"], 1), lambda: Writer.add(table, b"a", b""),
+                     lambda: MultiWriter.add(writer, b"a", b""),
+                     lambda: Writer.add(MultiWriter(0), b"a", b"")):
             with self.assertRaises(logpurple.OtherKind):
                 call()
 

@@ -13,7 +13,7 @@ import logpurple
 
 PACKAGE = os.path.dirname(os.path.abspath(logpurple.__file__))
 EXAMPLE = os.path.join(HERE, "..", "example.py")
-WRONG = """from logpurple import Runs, Table, Writer, compact
+WRONG = """from logpurple import MultiWriter, Runs, Table, Writer, compact
 def f(table: Table, runs: Runs) -> None:
     len(table)
     len(runs)
@@ -27,6 +27,8 @@ def f(table: Table, runs: Runs) -> None:
     Writer(Id=1)
     Writer(id="1")
     Writer(1)
+    MultiWriter()
+    MultiWriter("1")
     compact([table], levels=1)
     compact(5)
     table.entry_count = 5

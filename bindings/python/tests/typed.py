@@ -7,8 +7,8 @@ import pathlib
 from typing import Dict, Iterator, List, Optional, Tuple, Union
 
 from logpurple import (BytesLike, Compacted, Compaction, Entries, Entry, Finding, FinishedTable,
-                       Keys, Kind, Runs, Scan, Table, TableError, Verified, Writer, WrittenFile,
-                       compact, compact_each)
+                       Keys, Kind, MultiWriter, Runs, Scan, Table, TableError, Verified, Writer,
+                       WrittenFile, compact, compact_each)
 
 
 def written() -> FinishedTable:
@@ -19,6 +19,19 @@ def written() -> FinishedTable:
         file: Optional[FinishedTable] = writer.finish()
     assert file is not None
     return file
+
+
+def written_in_turn() -> List[FinishedTable]:
+    with MultiWriter(1 << 20, id=3, level=1) as writer:
+        writer.add(b"a", bytearray(b"1"), seqno=2, kind=Kind.VALUE)
+        writer.add_many([(memoryview(b"b"), array.array("B", b"2"))], seqno=1)
+        writer.delete(b"c")
+        first: Optional[FinishedTable] = writer.take()
+        files: List[FinishedTable] = list(iter(writer.take, None))
+        left: Optional[int] = writer.next_id
+        rest: List[FinishedTable] = writer.finish()
+    print(first, left)
+    return files + rest
 
 
 def read(reader: Union[Table, Runs], key: BytesLike) -> None:

@@ -15,7 +15,8 @@ use Rattle.sst_c.specs.Takes.{EndsWith, ReadsMany, Yields}
 use Rattle.sst_c.specs.What.{IsRangeWhere, IsRunsScanAs, IsScanWhere, MergedStepsBy, is_scan}
 use Rattle.sst_c.specs.declared.entries.EntryReport.{EntryReport}
 use Rattle.sst_c.specs.declared.held.What.{What}
-use Rattle.sst_c.specs.declared.held.What.TheVariants.{Answers, Compaction, Files, Merged, Packing, Range as RangeOf}
+use Rattle.sst_c.specs.declared.held.What.TheVariants.{Answers, Compaction, Files, Merged, MultiWriter}
+use Rattle.sst_c.specs.declared.held.What.TheVariants.{Packing, Range as RangeOf}
 use Rattle.sst_c.specs.declared.held.What.TheVariants.{Runs, RunsScan as RunsScanOf, Scan as ScanOf, Table, Verification}
 
 -- a bulk read of one source is that of another, if each read of the one is one of the other
@@ -84,6 +85,7 @@ scan_where (Answers x) P is = absurd is
 scan_where (Verification x) P is = absurd is
 scan_where (Packing x) P is = absurd is
 scan_where (Compaction x) P is = absurd is
+scan_where (MultiWriter x) P is = absurd is
 scan_where (RunsScanOf x) P is = absurd is
 
 range_where : (w : What) (P : Range Global → Type 0) → IsRangeWhere P w → (s : Range Global) × (w ≡ RangeOf s) × P s
@@ -97,6 +99,7 @@ range_where (Answers x) P is = absurd is
 range_where (Verification x) P is = absurd is
 range_where (Packing x) P is = absurd is
 range_where (Compaction x) P is = absurd is
+range_where (MultiWriter x) P is = absurd is
 range_where (RunsScanOf x) P is = absurd is
 
 merged_where : (w : What) (P : Option NewestAt → Type 0) → IsMergedAs P w → (m : Option NewestAt) × (w ≡ Merged m) × P m
@@ -110,6 +113,7 @@ merged_where (Answers x) P is = absurd is
 merged_where (Verification x) P is = absurd is
 merged_where (Packing x) P is = absurd is
 merged_where (Compaction x) P is = absurd is
+merged_where (MultiWriter x) P is = absurd is
 merged_where (RunsScanOf x) P is = absurd is
 
 runs_scan_where : (w : What) (P : Option LentNewestAt → Type 0) → IsRunsScanAs P w
@@ -125,6 +129,7 @@ runs_scan_where (Answers x) P is = absurd is
 runs_scan_where (Verification x) P is = absurd is
 runs_scan_where (Packing x) P is = absurd is
 runs_scan_where (Compaction x) P is = absurd is
+runs_scan_where (MultiWriter x) P is = absurd is
 
 module _ (front back : NewestAt → Option (Result Entry Error) → NewestAt → Type 0)
     (advances : LentNewestAt → Option (Result Entry Error) → LentNewestAt → Type 0) (at_back : Bool) where
@@ -194,6 +199,7 @@ as_merged gives s code found (Answers x) is = absurd is
 as_merged gives s code found (Verification x) is = absurd is
 as_merged gives s code found (Packing x) is = absurd is
 as_merged gives s code found (Compaction x) is = absurd is
+as_merged gives s code found (MultiWriter x) is = absurd is
 as_merged gives s code found (RunsScanOf x) is = absurd is
 
 module _ (front back : NewestAt → Option (Result Entry Error) → NewestAt → Type 0)

@@ -23,3 +23,4 @@ pub mod Alone
 pub mod Shared
 pub mod AnswerLists
 pub mod LaidFound
+pub mod MultiWriting

@@ -57,6 +57,12 @@ pub record OpensNewWithin (lower_kind upper_kind : ℕ) (is_kind : What → Bool
 abbrev pub FromHeld : (handle source : Option Held) → (What → Type 0) → Type 0
 FromHeld handle source P = (h : Held) → handle ≡ None → source ≡ Some h → P h.what
 
+-- if the filled handle was closed and the other one holds an object, a call leads from this object to
+-- the one that is held after that
+abbrev pub LeadsFromHeld : (filled handle after : Option Held) → (What → What → Type 0) → Type 0
+LeadsFromHeld filled handle after Leads = (h : Held) → filled ≡ None → handle ≡ Some h
+    → IsSomeAnd after (λ k. Leads h.what k.what)
+
 -- if the source holds an object and the code is 0, the opened handle holds one that is made of it so
 abbrev pub MakesFrom : (source : Option Held) (code : ℕ) (after : Option Held)
     → (What → What → Type 0) → Type 0

@@ -25,5 +25,6 @@ pub mod Stepwise
 pub mod Packed
 pub mod Compact
 pub mod CompactionSteps
+pub mod MultiWriting
 pub mod Sentences
 pub mod Words

@@ -15,6 +15,7 @@ use Rattle.lsm_readers.specs.Stored.{StoresList}
 use Rattle.lsm_readers.specs.point.Table.{OpenTable}
 use Rattle.lsm_readers.specs.Verification.{Verifying, verifying}
 use Rattle.lsm_writers.specs.declared.writer.FinishedTable.{FinishedTable}
+use Rattle.lsm_writers.specs.Tables.{TablesWriting}
 use Rattle.lsm_writers.specs.Writing.{Writing}
 use Rattle.sst_c.specs.declared.held.FoundEntry.TheVariants.{Kept}
 use Rattle.sst_c.specs.declared.held.Held.{Held}
@@ -23,6 +24,7 @@ use Rattle.sst_c.specs.declared.held.What.TheVariants.{Table, Files as FilesOf, 
 use Rattle.sst_c.specs.declared.held.What.TheVariants.{Range as RangeOf, Merged as MergedOf}
 use Rattle.sst_c.specs.declared.held.What.TheVariants.{Answers as AnswersOf, Scan as ScanOf}
 use Rattle.sst_c.specs.declared.held.What.TheVariants.{Compaction as CompactionOf}
+use Rattle.sst_c.specs.declared.held.What.TheVariants.{MultiWriter as MultiWriterOf}
 use Rattle.sst_c.specs.declared.held.What.TheVariants.{RunsScan as RunsScanOf}
 use Rattle.sst_c.specs.declared.held.What.TheVariants.{Packing as PackingOf}
 use Rattle.sst_c.specs.declared.held.What.TheVariants.{Verification as VerificationOf}
@@ -151,6 +153,11 @@ IsCompactionWhere holds = IsCompactionAs (λ m. IsSomeAnd m holds)
 abbrev pub is_compaction : What → Bool
 is_compaction (CompactionOf m) = true
 is_compaction _ = false
+
+-- the writer of several tables, unless it is finished
+abbrev pub multi_writer_in : What → Option TablesWriting
+multi_writer_in (MultiWriterOf m) = m
+multi_writer_in _ = None
 
 -- the object is a packing that satisfies this predicate
 abbrev pub IsPackingWhere : (Packed OpenTable Global → Type 0) → What → Type 0

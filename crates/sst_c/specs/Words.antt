@@ -5,6 +5,7 @@ pub use Rattle.core.specs.Option.{option_and_then, option_map}
 pub use Rattle.core.specs.Ptr.{as_ptr}
 pub use Rattle.std_alloc.specs.Arc.{arc_value}
 pub use Rattle.std.specs.Global.{Global as Heap}
+pub use Rattle.std.specs.Vec.{vec_capacity, vec_len}
 pub use Rattle.sst_entries.specs.Entry.{Entry, entry}
 pub use Rattle.sst_entries.specs.Error.{Faults, FaultsFirst, Gives, number_of}
 pub use Rattle.sst_entries.specs.Lending.{came, entry_of_ref}
@@ -20,7 +21,8 @@ pub use Rattle.lsm_sorted.specs.version.Packed.{IsPackedOf}
 pub use Rattle.lsm_sorted.specs.version.Packing.{AreInOrder, tables_in}
 pub use Rattle.lsm_sorted.specs.declared.version.packed.Placed.{Placed as PlacedTable}
 pub use Rattle.lsm_writers.specs.Filtering.{IsSmallFilter}
-pub use Rattle.lsm_writers.specs.Tables.{IsFreshRun}
+pub use Rattle.lsm_writers.specs.Tables.{IsFreshRun, TablesWriting as TablesWritingValue}
+pub use Rattle.lsm_writers.specs.Tables.{all_written}
 pub use Rattle.lsm_writers.specs.Writing.{IsSmallIndex, Writing as WritingValue, may_be_written}
 pub use Rattle.lsm_writers.specs.Writing.{written}
 pub use Rattle.lsm_writers.specs.declared.writer.FinishedTable.{FinishedTable as Finished}
@@ -59,8 +61,8 @@ pub use Rattle.sst_c.specs.Copies.{CopiesEntry, LendsEntry, copy_code, laid_over
 pub use Rattle.sst_c.specs.Facts.{table_facts}
 pub use Rattle.sst_c.specs.Files.{CopiesFile, CopiesPart, TellsFile, file_at}
 unfoldable pub use Rattle.sst_c.specs.Files.{file_facts}
-pub use Rattle.sst_c.specs.Handles.{FromHeld, MakesFrom, OpensFrom, OpensHandle, OpensNew}
-pub use Rattle.sst_c.specs.Handles.{OpensNewWithin, OpensWithin, QueriesHandle, ReadsHeld}
+pub use Rattle.sst_c.specs.Handles.{FromHeld, LeadsFromHeld, MakesFrom, OpensFrom, OpensHandle}
+pub use Rattle.sst_c.specs.Handles.{OpensNew, OpensNewWithin, OpensWithin, QueriesHandle, ReadsHeld}
 pub use Rattle.sst_c.specs.Handles.{ReadsThrough, TakesThrough, UsesSource}
 pub use Rattle.sst_c.specs.Handles.{WritesThrough}
 pub use Rattle.sst_c.specs.Many.{AnswersHeld, AnswersKeys, GetsMany, GivesMany, ManyResult, answer_at}
@@ -68,6 +70,10 @@ pub use Rattle.sst_c.specs.Many.{copy_at_code, keys_cut, lend_at_code, many_kept
 pub use Rattle.sst_c.specs.Many.{queries_for}
 unfoldable pub use Rattle.sst_c.specs.Many.{AnswersMany}
 pub use Rattle.sst_c.specs.Memory.{ReportsMemory}
+pub use Rattle.sst_c.specs.MultiWriting.{AddsToHeld, AddsToTables, FinishesInto, FinishesTables}
+pub use Rattle.sst_c.specs.MultiWriting.{HandsOutTable, HasRoomForOne, HoldsNew, ReportsFinished}
+pub use Rattle.sst_c.specs.MultiWriting.{ReportsTables, ReportsTaken, ReportsWriting, TakesOldest}
+pub use Rattle.sst_c.specs.MultiWriting.{TakesTable, ThroughMultiWriter, WritesToTables}
 pub use Rattle.sst_c.specs.Newest.{LentNewestAt, NewestAt, newest_lent}
 pub use Rattle.sst_c.specs.Options.{are_usable, decode_default, decode_filter_kind, decode_index_kind}
 pub use Rattle.sst_c.specs.Options.{decode_options, decode_writing}
@@ -96,12 +102,13 @@ pub use Rattle.sst_c.specs.What.{PacksHeld, RangesHeld, RangesTable, VerifiesHel
 pub use Rattle.sst_c.specs.What.{IsRangeWhere, IsRangeWithin, IsRunsScanAs, IsRunsScanWhere}
 pub use Rattle.sst_c.specs.What.{IsScanWhere, IsVerificationWhere, MergedStepsBy, are_files, are_runs}
 pub use Rattle.sst_c.specs.What.{begun, decode_bound, files_held, is_packing, is_range, is_scan, is_table}
-pub use Rattle.sst_c.specs.What.{is_verification, many_in, packed_chain, packed_runs, runs_held}
-pub use Rattle.sst_c.specs.What.{writer_in}
+pub use Rattle.sst_c.specs.What.{is_verification, many_in, multi_writer_in, packed_chain, packed_runs}
+pub use Rattle.sst_c.specs.What.{runs_held, writer_in}
 pub use Rattle.sst_c.specs.Writing.{Finishes, decode_kind}
 unfoldable pub use Rattle.sst_c.specs.Writing.{AddsFileOf, FaultReported, FinishReported, TookEntry}
 pub use Rattle.sst_c.specs.declared.held.FoundEntry.TheVariants.{Lent as IsLent, Kept}
 pub use Rattle.sst_c.specs.declared.held.Held.{Held as HeldValue}
+pub use Rattle.sst_c.specs.declared.held.What.TheVariants.{MultiWriter as MultiWriterOf}
 pub use Rattle.sst_c.specs.declared.held.What.TheVariants.{Merged as MergedOf, Range as RangeOf}
 pub use Rattle.sst_c.specs.declared.held.What.TheVariants.{Runs as RunsOf, RunsScan as RunsScanOf}
 pub use Rattle.sst_c.specs.declared.held.What.TheVariants.{Scan as ScanOf, Table as TableOf}

@@ -13,7 +13,7 @@ use lsm_iters::Iter;
 use lsm_readers::{Scanner, Table};
 use lsm_runs::RunPlace;
 use lsm_sorted::Packed;
-use lsm_writers::{FinishedTable, Writer};
+use lsm_writers::{FinishedTable, MultiWriter, Writer};
 use sst_blocks::{EntryPlace, EntryRef, Error, InternalValue, Lending};
 use std::alloc::Global;
 
@@ -104,6 +104,8 @@ pub enum What {
     Packing(Packed<Table>),
     /// A compaction by steps; `None` after its end or an error.
     Compaction(Option<OpenCompaction>),
+    /// A writer of several tables; `None` after it is finished.
+    MultiWriter(Option<MultiWriter>),
 }
 
 /// The finished tables, and the writer of an unfinished one.

@@ -30,6 +30,7 @@ mod loose;
 mod many;
 mod memory;
 mod merged;
+mod multi_writers;
 mod options;
 mod packed;
 mod packing;
@@ -67,6 +68,9 @@ pub use loose::Loose;
 pub use many::{sst_answers_copy, sst_answers_lend, sst_table_get_many};
 pub use memory::{TableMemory, sst_table_memory};
 pub use merged::sst_runs_range_open;
+pub use multi_writers::{
+    sst_multi_writer_add, sst_multi_writer_finish, sst_multi_writer_open, sst_multi_writer_take,
+};
 pub use options::{TableOptions, sst_options_default};
 pub use packing::{
     sst_packing_chain, sst_packing_count, sst_packing_open, sst_packing_run, sst_packing_table,

@@ -74,8 +74,8 @@ pub extern "C" fn sst_writer_open(alloc: Global, options: &TableOptions, writer:
     begin(alloc, options, writer)
 }
 
-// Returns the value type of a kind as C passes it.
-fn kind_of(kind: u64) -> Option<ValueType>
+/// Returns the value type of a kind as C passes it.
+pub(crate) fn kind_of(kind: u64) -> Option<ValueType>
     ensures { result ≡ spec.decode_kind kind }
 {
     match kind {

@@ -506,6 +506,35 @@ extern "C" {
     /// Finishes a table, which the handle then holds.
     pub fn sst_writer_finish(writer: *mut sst_handle) -> u32;
 
+    /// Opens a writer of several tables, one after another.
+    pub fn sst_multi_writer_open(
+        options: *const sst_options,
+        target_size: u64,
+        writer: *mut sst_handle,
+    ) -> u32;
+    /// Writes an entry, and first begins the next table if one is due.
+    pub fn sst_multi_writer_add(
+        writer: *mut sst_handle,
+        key: *const u8,
+        key_len: usize,
+        seqno: u64,
+        kind: u32,
+        value: *const u8,
+        value_len: usize,
+    ) -> u32;
+    /// Stores the oldest finished table that was not taken.
+    pub fn sst_multi_writer_take(
+        writer: *mut sst_handle,
+        files: *mut sst_handle,
+        next_id: *mut u64,
+    ) -> u32;
+    /// Finishes a writer of several tables, and stores those that were not taken.
+    pub fn sst_multi_writer_finish(
+        writer: *mut sst_handle,
+        files: *mut sst_handle,
+        next_id: *mut u64,
+    ) -> u32;
+
     /// Compacts a list of runs into new tables.
     pub fn sst_compact(
         runs: *mut sst_handle,

@@ -43,6 +43,7 @@ mod error;
 mod files;
 mod handle;
 mod memtable;
+mod multi_writer;
 mod packing;
 mod range;
 mod runs;
@@ -61,6 +62,7 @@ pub use entry::{
 pub use error::Error;
 pub use files::{FileError, WrittenFile};
 pub use memtable::RangeWith;
+pub use multi_writer::MultiWriter;
 pub use packing::Packing;
 pub use range::Range;
 pub use runs::Runs;

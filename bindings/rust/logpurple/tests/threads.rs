@@ -4,7 +4,8 @@ mod common;
 
 use common::{collect, items, keys, newest, random_entries, seen, small, write, Entries};
 use logpurple::{
-    Answers, Compaction, OpenOptions, Range, Runs, Scanner, Table, Verification, Writer, NEWEST,
+    Answers, Compaction, MultiWriter, OpenOptions, Range, Runs, Scanner, Table, Verification,
+    Writer, NEWEST,
 };
 use std::sync::{Arc, Barrier, Mutex};
 use std::thread;
@@ -14,7 +15,7 @@ fn is_sync<T: Sync>() {}
 
 #[test]
 fn all_that_is_held_goes_to_another_thread() {
-    is_send::<(Table, Range, Scanner, Runs, Writer, Answers, Verification)>();
+    is_send::<(Table, Range, Scanner, Runs, Writer, MultiWriter, Answers, Verification)>();
     is_sync::<Table>();
 }
 
