@@ -19,7 +19,7 @@ use Rattle.lsm_readers.specs.point.Table.{IsRecovered, OpenTable}
 use Rattle.lsm_readers.specs.Scan.{fault_of}
 use Rattle.lsm_readers.proofs.Recovered.{range_is}
 use Rattle.lsm_files.specs.declared.error.FileError.{FileError as ReadError}
-use Rattle.lsm_files.specs.declared.error.FileError.TheVariants as read
+use Rattle.lsm_files.specs.declared.error.FileError.TheVariants as failed
 use Rattle.lsm_files.specs.Reads.{MayFail, Reads}
 use Rattle.lsm_files.specs.Results.{FileGives, IsFailureOr}
 use Rattle.lsm_runs.specs.RunLists.{RunsHoldLists, TableLists}
@@ -151,10 +151,10 @@ pub read_fails : (reads : Reads) (o : GetOptions) (t : OpenTable) (path : Bor (L
     (run_read o.key.now (seen_below o) (t ∷ [])).returned
     → (IsSoundTable t → IsFailureOr reads OutOfMemory f) → IsFailureAt path f e
     → FailsGet reads o (Some t.bytes) path e
-read_fails reads o t path (read.Io f) (error.File e) told gives sound at =
+read_fails reads o t path (failed.Io f) (error.File e) told gives sound at =
     (at.0, subst (λ (g : FileFault). TellsFailure reads (Some t.bytes) g) (sym at.1) (inl gives))
-read_fails reads o t path (read.Io f) e told gives sound at = absurd at
-read_fails reads o t path (read.Table f) (error.Unreadable name place e) told gives sound at = (
+read_fails reads o t path (failed.Io f) e told gives sound at = absurd at
+read_fails reads o t path (failed.Table f) (error.Unreadable name place e) told gives sound at = (
   at.0,
   record {
     table = t;
@@ -166,8 +166,8 @@ read_fails reads o t path (read.Table f) (error.Unreadable name place e) told gi
     faulty = λ is. absurd (true≢false (sym (ap is_memory (sound is)) ∙ at.2));
   },
 )
-read_fails reads o t path (read.Table f) (error.Refused e) told gives sound at = at
-read_fails reads o t path (read.Table f) e told gives sound at = absurd at
+read_fails reads o t path (failed.Table f) (error.Refused e) told gives sound at = at
+read_fails reads o t path (failed.Table f) e told gives sound at = absurd at
 
 -- the block that an error comes from says nothing of the file
 pub same_fails : (reads : Reads) (o : GetOptions) (known : Option (List ℕ)) (path : Bor (List ℕ))
@@ -327,7 +327,7 @@ pub gets : (o : GetOptions) (content : List ℕ → Option (List ℕ)) (paths : 
 gets o content paths found there read is = record {
   found = found;
   read = read;
-  there = is;
+  is_there = is;
   list = λ lists hold. ok_is (sym read.returned
       ∙ runs_point o.key.now (seen_below o) None (each_alone read.tables) lists hold);
 }

@@ -3,7 +3,7 @@ use denote.Ref.{Bor}
 use Rattle.std.specs.Prelude.{◌≡◌, ◌⊎◌, ℕ, Bool, List, [], ◌∷◌, ◌++◌, Option, None, IfSome, Ok, Err}
 use Rattle.std.specs.Prelude.{false, length, true}
 use Rattle.lsm_files.specs.declared.error.FileError.{FileError as ReadError}
-use Rattle.lsm_files.specs.declared.error.FileError.TheVariants as read
+use Rattle.lsm_files.specs.declared.error.FileError.TheVariants as failed
 use Rattle.lsm_files.specs.Reads.{MayFail, Reads}
 use Rattle.lsm_readers.specs.point.Parts.{recovered_result}
 use Rattle.lsm_readers.specs.point.Table.{OpenTable}
@@ -50,8 +50,8 @@ TellsRefused pinned known fault = IsReadFault fault × (known ≡ None)
 
 -- The fault of a file whose table fails with this error.
 abbrev pub fault_of_read : ReadError → FileFault
-fault_of_read (read.Io e) = Io e
-fault_of_read (read.Table e) = Refused e
+fault_of_read (failed.Io e) = Io e
+fault_of_read (failed.Table e) = Refused e
 
 -- The same of a file that is read at an offset: also, a read may have failed.
 abbrev pub TellsFailure : Reads → Option (List ℕ) → FileFault → Type 0

@@ -9,7 +9,7 @@ use Rattle.sst_entries.specs.Point.{point}
 use Rattle.lsm_readers.specs.point.Table.{OpenTable}
 use Rattle.lsm_files.specs.Reads.{Reads}
 use Rattle.lsm_files.specs.declared.error.FileError.{FileError as ReadError}
-use Rattle.lsm_files.specs.declared.error.FileError.TheVariants as read
+use Rattle.lsm_files.specs.declared.error.FileError.TheVariants as failed
 use Rattle.lsm_runs.specs.SeveralRuns.{run_read, runs_result, union_in}
 use Rattle.sst_tool.specs.declared.files.error.ToolError.{ToolError}
 use Rattle.sst_tool.specs.declared.files.error.ToolError.TheVariants as error
@@ -45,7 +45,7 @@ pub record GetsFrom (o : GetOptions) (content : List ℕ → Option (List ℕ))
     (paths : List (Bor (List ℕ))) (there : Bool) : Type 0 where
   pub found : Option Entry
   pub read : ReadsAll o content paths found
-  pub there : there ≡ is_some found
+  pub is_there : there ≡ is_some found
   pub list : OnListsOf (each_alone read.tables)
       (λ lists. found ≡ point (union_in lists) o.key.now (seen_below o))
 
@@ -85,12 +85,12 @@ pub record StopsGet (reads : Reads) (o : GetOptions) (content : List ℕ → Opt
 
 -- The error of a table in its file names the file, but for OutOfMemory.
 abbrev pub IsFailureAt : Bor (List ℕ) → ReadError → ToolError → Type 0
-IsFailureAt path (read.Io f) (error.File e) = (path_text e.name ≡ path.now) × (e.fault ≡ Io f)
-IsFailureAt path (read.Io f) e = ⊥
-IsFailureAt path (read.Table f) (error.Unreadable name at e) =
+IsFailureAt path (failed.Io f) (error.File e) = (path_text e.name ≡ path.now) × (e.fault ≡ Io f)
+IsFailureAt path (failed.Io f) e = ⊥
+IsFailureAt path (failed.Table f) (error.Unreadable name at e) =
     (name ≡ path) × (e ≡ f) × (is_memory f ≡ false)
-IsFailureAt path (read.Table f) (error.Refused e) = is_memory e ≡ true
-IsFailureAt path (read.Table f) e = ⊥
+IsFailureAt path (failed.Table f) (error.Refused e) = is_memory e ≡ true
+IsFailureAt path (failed.Table f) e = ⊥
 
 -- The error is the same, except for the block that it comes from.
 abbrev pub IsSameFailure : ToolError → ToolError → Type 0
