@@ -11,11 +11,12 @@ use Rattle.sst_entries.specs.declared.error.Error.{Error}
 use Rattle.sst_entries.specs.declared.error.Error.TheVariants.{OutOfMemory}
 use Rattle.sst_entries.proofs.Refusals.{memory_is}
 use Rattle.lsm_sorted.specs.Leading.{leading_of}
-use Rattle.lsm_sorted.specs.version.KeyRange.{has_key}
+use Rattle.lsm_sorted.specs.version.KeyRange.{Interval, has_key}
 use Rattle.lsm_readers.specs.point.Answer.{table_answer}
 use Rattle.lsm_readers.specs.point.Parts.{recovered_result}
 use Rattle.lsm_readers.specs.point.Read.{◌>>=◌}
-use Rattle.lsm_readers.specs.point.Table.{IsRecovered, OpenTable}
+use Rattle.lsm_readers.specs.declared.inner.Inner.{Inner}
+use Rattle.lsm_readers.specs.point.Table.{IsRecovered, OpenTable, table_of}
 use Rattle.lsm_readers.specs.Scan.{fault_of}
 use Rattle.lsm_readers.proofs.Recovered.{range_is}
 use Rattle.lsm_files.specs.declared.error.FileError.{FileError as ReadError}
@@ -73,6 +74,28 @@ pub read_inside : (key : List ℕ) (n : ℕ) (t : OpenTable) → has_key (range_
     → (run_read key n (t ∷ [])).returned ≡ (table_answer t key n).returned
 read_inside key n t is =
     ap (λ (c : Bool). (table_read key n (cond c (Some t) None)).returned) is
+
+-- what the state of a table says of its range
+pub has_by : {A : Type 0} (t : OpenTable) (inner : Inner A) (key : List ℕ) (has b : Bool)
+    → IsRecovered t → table_of t.bytes inner ≡ t → has ≡ has_key (inner.metadata).key_range key
+    → has ≡ b → has_key (range_of t) key ≡ b
+has_by t inner key has b recovered same is tested =
+    ap (λ (r : Interval). has_key r key)
+    (range_is t recovered ∙ ap (λ (u : OpenTable). u.parts.facts.key_range) (sym same))
+    ∙ sym is ∙ tested
+
+memory_by : {Y : Type 0} (e : Error) (y : Y) (b : Bool) → is_memory e ≡ b
+    → Fails {Y = Y} e (Ok y) → e ≡ OutOfMemory
+memory_by {Y} e y true is fails = memory_is e is
+memory_by {Y} e y false is fails = let never : Ok y ≡ Err e = fails is in absurd cc
+
+-- a read that is to find something
+pub sound_read : (reads : Reads) (r : Result (Option Entry) ReadError) (x : Option Entry)
+    → FileGives reads (λ (y : Option Entry). y) r (Ok x)
+    → IfErr r (IsFailureOr reads OutOfMemory)
+sound_read reads (Ok y) x gives = tt
+sound_read reads (Err (failed.Io e)) x gives = gives
+sound_read reads (Err (failed.Table e)) x gives = memory_by e x (is_memory e) refl gives
 
 refusal_by : (key : List ℕ) (n : ℕ) (t : OpenTable) (b : Bool)
     → cond b (fault_of (table_answer t key n).returned) None
@@ -141,6 +164,17 @@ pub not_read : (known : Option (List ℕ)) (path : Bor (List ℕ)) (e : FileErro
     → (is_memory_fault e.fault ≡ false → known ≡ None) → FailsOpen known path (error_of_file e)
 not_read known path e named fault none =
     file_fails (TellsRefused false known) path e named (told_read false known e.fault fault none)
+
+-- what holds of an error holds of the one that is passed on
+pub passed : {X : Type 0} (P : ToolError → Type 0) (r : Result X ToolError) (e : ToolError)
+    → IsErrAnd r (λ y. y ≡ e) → P e → IfErr r P
+passed P (Ok x) e is holds = tt
+passed P (Err y) e is holds = subst P (sym is) holds
+
+-- memory that runs out names no file
+pub none_left : (reads : Reads) (o : GetOptions) (known : Option (List ℕ)) (path : Bor (List ℕ))
+    → FailsGet reads o known path (error.Refused OutOfMemory)
+none_left reads o known path = refl
 
 -- ---- a read that fails
 
