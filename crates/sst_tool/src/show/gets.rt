@@ -188,7 +188,7 @@ fn located<'a, P: Place, A: Allocator + Copy>(
     kept: Option<Slice<A>>,
     error: ToolError<'a>,
 ) -> ToolError<'a>
-    ensures { spec.IsSameFailure error result }
+    ensures { spec.IsSameFailure error.entry result }
 {
     match error {
         ToolError::Unreadable { name, error, .. } => ToolError::Unreadable {
@@ -215,6 +215,7 @@ fn refused_in<P: Place, A: Allocator + Copy>(
 }
 
 // Opens a file whose whole bytes are in memory: those kept, if there are some.
+#[tactic(auto, using(crate::proofs::Gets::file_fails))]
 fn whole_table<'a, P: Place, A: Allocator + Copy>(
     alloc: A,
     place: &P,
