@@ -1,7 +1,7 @@
 -- The results of commands that show entries.
 use denote.Ref.{Bor}
 use Rattle.std.specs.Prelude.{◌≡◌, ◌⊎◌, ◌-◌, ◌^◌, ℕ, Bool, List, [], ◌∷◌, Option, None}
-use Rattle.std.specs.Prelude.{Ok, Some, false, is_some, length, map, true}
+use Rattle.std.specs.Prelude.{Some, false, length, map, true}
 use Rattle.std.specs.Option.{option_map, option_map_or}
 use Rattle.std.specs.List.{AllByRecursion}
 use Rattle.std.specs.Global.{Global}

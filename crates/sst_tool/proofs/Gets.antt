@@ -2,9 +2,9 @@
 use denote.Ref.{Bor}
 use Rattle.std.proofs.Common.{◌≡◌, refl, sym, ◌∙◌, ap, subst, ℕ, ◌+◌, ◌<◌, ◌≤◌, List, [], ◌∷◌, ◌++◌}
 use Rattle.std.proofs.Common.{Bool, true, false, true≢false, get_or, inl, inr, length, map, take, drop}
-use Rattle.std.specs.Prelude.{◌⊎◌, Option, Some, None, Result, Ok, Err, IfErr, IfOk, IfSome, cond, is_some}
+use Rattle.std.specs.Prelude.{Option, Some, None, Result, Ok, Err, IfErr, IfSome, cond, is_some}
 use Rattle.std.specs.Result.{IsErrAnd}
-use Rattle.std.proofs.lemmas.List.{get_or_default, map-append, take_all, take_more}
+use Rattle.std.proofs.lemmas.List.{get_or_default, map-append, take_all}
 use Rattle.sst_entries.specs.Entry.{Entry}
 use Rattle.sst_entries.specs.Error.{Fails, is_memory}
 use Rattle.sst_entries.specs.declared.error.Error.{Error}
@@ -21,9 +21,8 @@ use Rattle.lsm_readers.specs.Scan.{fault_of}
 use Rattle.lsm_readers.proofs.Recovered.{range_is}
 use Rattle.lsm_files.specs.declared.error.FileError.{FileError as ReadError}
 use Rattle.lsm_files.specs.declared.error.FileError.TheVariants as failed
-use Rattle.lsm_files.specs.Reads.{MayFail, Reads}
+use Rattle.lsm_files.specs.Reads.{Reads}
 use Rattle.lsm_files.specs.Results.{FileGives, IsFailureOr}
-use Rattle.lsm_runs.specs.RunLists.{RunsHoldLists, TableLists}
 use Rattle.lsm_run_parts.specs.RunParts.{range_of}
 use Rattle.lsm_runs.specs.SeveralRuns.{run_read, runs_result, table_read, union_in}
 use Rattle.lsm_runs.proofs.RunPoints.{runs_point}
@@ -37,8 +36,7 @@ use Rattle.sst_tool.specs.declared.files.file_error.FileFault.TheVariants.{Io, L
 use Rattle.sst_tool.specs.declared.files.file_error.FileFault.TheVariants.{NotSynced, Refused, Taken}
 use Rattle.sst_tool.specs.declared.show.gets.GetOptions.{GetOptions}
 use Rattle.sst_tool.specs.files.Files.{IsReadFault, error_of_file, is_memory_fault, path_text}
-use Rattle.sst_tool.specs.files.Opened.{AreOpenedFrom, HasContent, IsToldByBytes, TellsFailure}
-use Rattle.sst_tool.specs.files.Opened.{TellsRefused}
+use Rattle.sst_tool.specs.files.Opened.{IsToldByBytes, TellsFailure, TellsRefused}
 use Rattle.sst_tool.specs.make.Compacted.{each_alone}
 use Rattle.sst_tool.specs.show.Failures.{read_refusal}
 use Rattle.sst_tool.specs.show.Files.{IsSoundTable}
@@ -283,7 +281,7 @@ fails_at reads o known bytes path e same fails = absurd fails
 
 module _ (key : List ℕ) (n : ℕ) (run : List OpenTable) (found next : Option Entry) where
   abbrev after : Option Entry → List (List OpenTable) → Result (Option Entry) Error
-         → Result (Option Entry) Error
+      → Result (Option Entry) Error
   after f runs r = r >>= λ x. runs_result key n (leading_of f x) runs
 
   behind : (f : Option Entry) (runs : List (List OpenTable)) (r : Result (Option Entry) Error)
@@ -351,8 +349,8 @@ stops_get reads o content (Err y) paths i d found e less before fails is =
       fails = fails;
     }
 
-ok_is : {X : Type 0} {x y : X} → Ok {E = Error} x ≡ Ok y → x ≡ y
-ok_is e = cc
+same_found : (r : Result (Option Entry) Error) (x y : Option Entry) → r ≡ Ok x → r ≡ Ok y → x ≡ y
+same_found r x y is other = cc
 
 -- whether there is an entry
 pub gets : (o : GetOptions) (content : List ℕ → Option (List ℕ)) (paths : List (Bor (List ℕ)))
@@ -362,6 +360,8 @@ gets o content paths found there read is = record {
   found = found;
   read = read;
   is_there = is;
-  list = λ lists hold. ok_is (sym read.returned
-      ∙ runs_point o.key.now (seen_below o) None (each_alone read.tables) lists hold);
+  list = λ lists hold.
+      same_found (runs_result o.key.now (seen_below o) None (each_alone read.tables)) found
+      (point (union_in lists) o.key.now (seen_below o)) read.returned
+      (runs_point o.key.now (seen_below o) None (each_alone read.tables) lists hold);
 }

@@ -215,7 +215,6 @@ fn refused_in<P: Place, A: Allocator + Copy>(
 }
 
 // Opens a file whose whole bytes are in memory: those kept, if there are some.
-#[tactic(auto, using(crate::proofs::Gets::file_fails))]
 fn whole_table<'a, P: Place, A: Allocator + Copy>(
     alloc: A,
     place: &P,

@@ -1,6 +1,6 @@
 use denote.Ref.{Bor}
-use Rattle.std.proofs.Common.{◌≡◌, ℕ, List, refl, subst, sym}
-use Rattle.std.specs.Prelude.{Bool, IfOk}
+use Rattle.std.proofs.Common.{ℕ, List, refl, subst, sym}
+use Rattle.std.specs.Prelude.{IfOk}
 use Rattle.lsm_files.specs.Reads.{AreKnown}
 use Rattle.sst_tool.specs.lines.Escapes.{WordMeans}
 use Rattle.sst_tool.specs.show.Gets.{GetsFrom}
@@ -13,7 +13,7 @@ pub returns : goal.returns
 returns g c =
     let task = c.args.task.now in
     let content = g.P.Place.content c.args.place.now in
-    let reads = g.P.Place.File.reads in
+    let reads = g.P.File.ReadAt.reads in
     let options : GetOptions = record {
       key = c.as_slice.result;
       at = task.at;

@@ -13,7 +13,7 @@ loop-path-preserved g c known =
 
 pub returns-in_err-next-clause-named : goal.returns-in_err-next-clause-named
 returns-in_err-next-clause-named g c known =
-    stops_get g.P.Place.File.reads c.args.options.now (g.P.Place.content c.args.place.now)
+    stops_get g.P.File.ReadAt.reads c.args.options.now (g.P.Place.content c.args.place.now)
     c.from_residual.result c.args.paths.now c.loop-path.path-index _ c.loop-path.found
     c.in_err-next.field-0.0 c.loop-path-test.true (c.loop-path.invariant known)
     (c.in_err-next.ensures.fault known) c.from_residual.ensures.1
