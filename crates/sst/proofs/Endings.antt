@@ -2,7 +2,7 @@
 use Rattle.std.proofs.Common.{◌≡◌, refl, subst, sym, ℕ, ◌≤◌, Bool, List, inl, inr}
 use Rattle.std.specs.Prelude.{IfErr, IfOk, MatchResult, None, Option, Result, Ok, Err}
 use Rattle.std.specs.declared.io.Error.{Error}
-use Rattle.lsm_files.specs.Reads.{Reads, unknown}
+use Rattle.lsm_files.specs.Reads.{ByteAccess, unknown}
 use Rattle.sst_tool.specs.files.Steps.{Step}
 use Rattle.sst_tool.specs.declared.files.error.ToolError.{ToolError}
 use Rattle.sst_tool.specs.declared.files.error.ToolError.TheVariants as error
@@ -15,7 +15,7 @@ use Rattle.sst.specs.Statuses.{status_of_failure}
 use Rattle.sst.specs.Tasks.{DoesTask, RefusesTask, Runs, RunsAs, status_of_done}
 
 -- a task was done, and the output does not pass on what was printed
-pub not_passed_on : (reads : Reads) (t : Task) (input : Option (List ℕ)) (content : List ℕ → Option (List ℕ))
+pub not_passed_on : (reads : ByteAccess) (t : Task) (input : Option (List ℕ)) (content : List ℕ → Option (List ℕ))
     (there : List ℕ → Option Bool) (known new : Option (List Step)) (status : ℕ) (e : Error)
     → DoesTask reads t input content there known new status
     → RefusesTask t input content there known (error.Output e) new

@@ -16,7 +16,7 @@ use Rattle.sst_tool.specs.files.Opened.{AreOpenedFrom, HasContent, IsToldByBytes
 use Rattle.sst_tool.specs.lines.Escapes.{WordMeans}
 use Rattle.tool_options.specs.declared.tasks.DumpTask.{DumpTask}
 use Rattle.tool_options.specs.declared.tasks.GetTask.{GetTask}
-use Rattle.lsm_files.specs.Reads.{AreKnown, Reads}
+use Rattle.lsm_files.specs.Reads.{AreKnown, ByteAccess}
 use Rattle.sst_tool.specs.show.Files.{runs_in}
 use Rattle.sst_tool.specs.show.Gets.{GetsFrom}
 use Rattle.sst_tool.specs.show.Merged.{PrintsMerged, merged_entries, newest_found, newest_in}
@@ -42,7 +42,7 @@ pub record AsksGet (task : GetTask) (o : GetOptions) : Type 0 where
 
 -- The task's files are read together, and the result is whether the key has a visible version. Of
 -- files whose bytes are unknown, nothing more is said.
-pub record DoesGet (reads : Reads) (task : GetTask) (content : List ℕ → Option (List ℕ))
+pub record DoesGet (reads : ByteAccess) (task : GetTask) (content : List ℕ → Option (List ℕ))
     (there : Bool) : Type 0 where
   pub options : GetOptions
   pub asked : AsksGet task options

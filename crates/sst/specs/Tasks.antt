@@ -1,6 +1,6 @@
 -- The results of tasks and command lines.
 use Rattle.std.specs.Prelude.{◌≡◌, ◌≤◌, ◌⊎◌, ℕ, Bool, List, Option, None, IfErr, IfOk, Result, Ok, Err}
-use Rattle.lsm_files.specs.Reads.{Reads, unknown}
+use Rattle.lsm_files.specs.Reads.{ByteAccess, unknown}
 use Rattle.sst_tool.specs.files.Steps.{Step}
 use Rattle.sst_tool.specs.declared.files.error.ToolError.{ToolError}
 use Rattle.sst_tool.specs.declared.files.made.Made.{Made}
@@ -18,7 +18,7 @@ use Rattle.sst.specs.Verified.{AreSoundFiles, HaveFaulty}
 
 -- The task succeeds with this status, for this input and these files, and does exactly this. Of the
 -- bytes of files that are read at an offset, so much is known.
-abbrev pub DoesTask : Reads → Task → Option (List ℕ) → (List ℕ → Option (List ℕ))
+abbrev pub DoesTask : ByteAccess → Task → Option (List ℕ) → (List ℕ → Option (List ℕ))
     → (List ℕ → Option Bool) → (known new : Option (List Step)) → (status : ℕ) → Type 0
 DoesTask reads (task.Write t) input content there known new status =
     (status ≡ 0) × ((made : Made) × WritesTables t input there made known new)

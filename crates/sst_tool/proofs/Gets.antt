@@ -21,7 +21,7 @@ use Rattle.lsm_readers.specs.Scan.{fault_of}
 use Rattle.lsm_readers.proofs.Recovered.{range_is}
 use Rattle.lsm_files.specs.declared.error.FileError.{FileError as ReadError}
 use Rattle.lsm_files.specs.declared.error.FileError.TheVariants as failed
-use Rattle.lsm_files.specs.Reads.{Reads}
+use Rattle.lsm_files.specs.Reads.{ByteAccess}
 use Rattle.lsm_files.specs.Results.{FileGives, IsFailureOr}
 use Rattle.lsm_run_parts.specs.RunParts.{range_of}
 use Rattle.lsm_runs.specs.SeveralRuns.{run_read, runs_result, table_read, union_in}
@@ -88,7 +88,7 @@ memory_by {Y} e y true is fails = memory_is e is
 memory_by {Y} e y false is fails = let never : Ok y ≡ Err e = fails is in absurd cc
 
 -- a read that is to find something
-pub sound_read : (reads : Reads) (r : Result (Option Entry) ReadError) (x : Option Entry)
+pub sound_read : (reads : ByteAccess) (r : Result (Option Entry) ReadError) (x : Option Entry)
     → FileGives reads (λ (y : Option Entry). y) r (Ok x)
     → IfErr r (IsFailureOr reads OutOfMemory)
 sound_read reads (Ok y) x gives = tt
@@ -109,7 +109,7 @@ refusal_is key n t = refusal_by key n t (has_key (range_of t) key)
 -- ---- an error
 
 -- what is told of some bytes is told of any file that may have others
-told_failure : (reads : Reads) (known : Option (List ℕ)) (fault : FileFault)
+told_failure : (reads : ByteAccess) (known : Option (List ℕ)) (fault : FileFault)
     → TellsRefused false known fault → TellsFailure reads known fault
 told_failure reads known (Io e) told = inr told.1
 told_failure reads known (Refused e) told = told
@@ -134,14 +134,14 @@ pub file_fails : (Tells : FileFault → Type 0) (path : Bor (List ℕ)) (e : Fil
 file_fails Tells path e named told =
     file_by Tells path e (is_memory_fault e.fault) refl named told
 
-get_by : (reads : Reads) (o : GetOptions) (known : Option (List ℕ)) (path : Bor (List ℕ))
+get_by : (reads : ByteAccess) (o : GetOptions) (known : Option (List ℕ)) (path : Bor (List ℕ))
     (e : ToolError) → FailsFile (TellsFailure reads known) path e → FailsGet reads o known path e
 get_by reads o known path (error.File e) fails = fails
 get_by reads o known path (error.Refused e) fails = fails
 get_by reads o known path e fails = absurd fails
 
 -- a file that is not opened
-pub not_opened : (reads : Reads) (o : GetOptions) (known : Option (List ℕ)) (path : Bor (List ℕ))
+pub not_opened : (reads : ByteAccess) (o : GetOptions) (known : Option (List ℕ)) (path : Bor (List ℕ))
     (e : ToolError) → FailsOpen known path e → FailsGet reads o known path e
 not_opened reads o known path (error.File e) fails =
     (fails.0, told_failure reads known e.fault fails.1)
@@ -149,7 +149,7 @@ not_opened reads o known path (error.Refused e) fails = fails
 not_opened reads o known path e fails = absurd fails
 
 -- one that does not open as a table
-pub not_table : (reads : Reads) (o : GetOptions) (known : Option (List ℕ)) (path : Bor (List ℕ))
+pub not_table : (reads : ByteAccess) (o : GetOptions) (known : Option (List ℕ)) (path : Bor (List ℕ))
     (e : FileError) → path_text e.name ≡ path.now → TellsFailure reads known e.fault
     → FailsGet reads o known path (error_of_file e)
 not_table reads o known path e named told =
@@ -170,14 +170,14 @@ passed P (Ok x) e is holds = tt
 passed P (Err y) e is holds = subst P (sym is) holds
 
 -- memory that runs out names no file
-pub none_left : (reads : Reads) (o : GetOptions) (known : Option (List ℕ)) (path : Bor (List ℕ))
+pub none_left : (reads : ByteAccess) (o : GetOptions) (known : Option (List ℕ)) (path : Bor (List ℕ))
     → FailsGet reads o known path (error.Refused OutOfMemory)
 none_left reads o known path = refl
 
 -- ---- a read that fails
 
 -- the error of a read of a table
-pub read_fails : (reads : Reads) (o : GetOptions) (t : OpenTable) (path : Bor (List ℕ))
+pub read_fails : (reads : ByteAccess) (o : GetOptions) (t : OpenTable) (path : Bor (List ℕ))
     (f : ReadError) (e : ToolError) → IsToldByBytes false t
     → FileGives {X = Option Entry} {Y = Option Entry} reads (λ x. x) (Err f)
     (run_read o.key.now (seen_below o) (t ∷ [])).returned
@@ -202,7 +202,7 @@ read_fails reads o t path (failed.Table f) (error.Refused e) told gives sound at
 read_fails reads o t path (failed.Table f) e told gives sound at = absurd at
 
 -- the block that an error comes from says nothing of the file
-pub same_fails : (reads : Reads) (o : GetOptions) (known : Option (List ℕ)) (path : Bor (List ℕ))
+pub same_fails : (reads : ByteAccess) (o : GetOptions) (known : Option (List ℕ)) (path : Bor (List ℕ))
     (e r : ToolError) → FailsGet reads o known path e → IsSameFailure e r
     → FailsGet reads o known path r
 same_fails reads o known path (error.Unreadable name place e) (error.Unreadable again found f) fails
@@ -249,7 +249,7 @@ fault_at o (Some k) bytes e same r = record {
 never : {X : Type 0} {x : X} → Some x ≡ None → ⊥
 never e = cc
 
-told_at : (reads : Reads) (known : Option (List ℕ)) (bytes : List ℕ) (fault : FileFault)
+told_at : (reads : ByteAccess) (known : Option (List ℕ)) (bytes : List ℕ) (fault : FileFault)
     → IfSome known (λ k. bytes ≡ k) → TellsFailure reads (Some bytes) fault
     → TellsFailure reads known fault
 told_at reads known bytes (Io e) same (inl fails) = inl fails
@@ -267,7 +267,7 @@ told_at reads known bytes (AfterOthers n e) same told = absurd (never told.1)
 told_at reads known bytes (NotSynced e) same told = absurd (never told.1)
 
 -- so it is with an error
-pub fails_at : (reads : Reads) (o : GetOptions) (known : Option (List ℕ)) (bytes : List ℕ)
+pub fails_at : (reads : ByteAccess) (o : GetOptions) (known : Option (List ℕ)) (bytes : List ℕ)
     (path : Bor (List ℕ)) (e : ToolError) → IfSome known (λ k. bytes ≡ k)
     → FailsGet reads o (Some bytes) path e → FailsGet reads o known path e
 fails_at reads o known bytes path (error.Unreadable name at e) same fails =
@@ -330,7 +330,7 @@ reads_all o content paths i found all before =
     subst (λ (ps : List (Bor (List ℕ))). ReadsAll o content ps found) (take_all i paths all) before
 
 -- one file fails
-pub stops_get : {R : Type 0} (reads : Reads) (o : GetOptions) (content : List ℕ → Option (List ℕ))
+pub stops_get : {R : Type 0} (reads : ByteAccess) (o : GetOptions) (content : List ℕ → Option (List ℕ))
     (result : Result R ToolError) (paths : List (Bor (List ℕ))) (i : ℕ) (d : Bor (List ℕ))
     (found : Option Entry) (e : ToolError) → i < length paths
     → ReadsAll o content (take i paths) found

@@ -11,7 +11,7 @@ use Rattle.sst_entries.specs.Error.{Gives, is_memory}
 use Rattle.sst_entries.specs.declared.error.Error.{Error}
 use Rattle.lsm_files.specs.declared.error.FileError.{FileError as ReadError}
 use Rattle.lsm_files.specs.declared.error.FileError.TheVariants as failed
-use Rattle.lsm_files.specs.Reads.{Reads}
+use Rattle.lsm_files.specs.Reads.{ByteAccess}
 use Rattle.lsm_files.specs.Results.{FileGives}
 use Rattle.sst_tool.specs.declared.files.file_error.FileError.{FileError}
 use Rattle.sst_tool.specs.declared.files.file_error.FileFault.{FileFault}
@@ -83,7 +83,7 @@ refused_told pinned (Some k) bytes e same returned =
 
 -- ---- a table in its file
 
-pub opening_told : (reads : Reads) (t : OpenTable) (bytes : List ℕ) → t.bytes ≡ bytes
+pub opening_told : (reads : ByteAccess) (t : OpenTable) (bytes : List ℕ) → t.bytes ≡ bytes
     → t.global_seqno ≡ 0
     → FileGives reads (λ (u : OpenTable). u.parts) (Ok t) (recovered_result bytes 0 false false)
     → IsToldByBytes false t
@@ -93,7 +93,7 @@ opening_told reads t bytes same number gives = (
 )
 
 -- the fault of one that does not open
-pub opening_fails : (reads : Reads) (bytes : List ℕ) (e : ReadError) (fault : FileFault)
+pub opening_fails : (reads : ByteAccess) (bytes : List ℕ) (e : ReadError) (fault : FileFault)
     → fault ≡ fault_of_read e
     → FileGives {X = OpenTable} reads (λ u. u.parts) (Err e) (recovered_result bytes 0 false false)
     → TellsFailure reads (Some bytes) fault

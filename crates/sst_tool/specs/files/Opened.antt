@@ -4,7 +4,7 @@ use Rattle.std.specs.Prelude.{◌≡◌, ◌⊎◌, ℕ, Bool, List, [], ◌∷�
 use Rattle.std.specs.Prelude.{false, length, true}
 use Rattle.lsm_files.specs.declared.error.FileError.{FileError as ReadError}
 use Rattle.lsm_files.specs.declared.error.FileError.TheVariants as failed
-use Rattle.lsm_files.specs.Reads.{MayFail, Reads}
+use Rattle.lsm_files.specs.Reads.{MayFail, ByteAccess}
 use Rattle.lsm_readers.specs.point.Parts.{recovered_result}
 use Rattle.lsm_readers.specs.point.Table.{OpenTable}
 use Rattle.sst_entries.specs.Error.{Gives}
@@ -54,7 +54,7 @@ fault_of_read (failed.Io e) = Io e
 fault_of_read (failed.Table e) = Refused e
 
 -- The same of a file that is read at an offset: also, a read may have failed.
-abbrev pub TellsFailure : Reads → Option (List ℕ) → FileFault → Type 0
+abbrev pub TellsFailure : ByteAccess → Option (List ℕ) → FileFault → Type 0
 TellsFailure reads known (Io e) = MayFail reads ⊎ (known ≡ None)
 TellsFailure reads known fault = TellsRefused false known fault
 

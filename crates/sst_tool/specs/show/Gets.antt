@@ -7,7 +7,7 @@ use Rattle.sst_entries.specs.declared.error.Error.{Error}
 use Rattle.sst_entries.specs.Error.{is_memory}
 use Rattle.sst_entries.specs.Point.{point}
 use Rattle.lsm_readers.specs.point.Table.{OpenTable}
-use Rattle.lsm_files.specs.Reads.{Reads}
+use Rattle.lsm_files.specs.Reads.{ByteAccess}
 use Rattle.lsm_files.specs.declared.error.FileError.{FileError as ReadError}
 use Rattle.lsm_files.specs.declared.error.FileError.TheVariants as failed
 use Rattle.lsm_runs.specs.SeveralRuns.{run_read, runs_result, union_in}
@@ -68,12 +68,12 @@ pub record FailsRead (o : GetOptions) (known : Option (List ℕ)) (e : Error) : 
   pub faulty : IsSoundTable table → ⊥
 
 -- The error is OutOfMemory, or names the file, which does not open or whose read fails.
-abbrev pub FailsGet : Reads → GetOptions → Option (List ℕ) → Bor (List ℕ) → ToolError → Type 0
+abbrev pub FailsGet : ByteAccess → GetOptions → Option (List ℕ) → Bor (List ℕ) → ToolError → Type 0
 FailsGet reads o known path (error.Unreadable name at e) = (name ≡ path) × FailsRead o known e
 FailsGet reads o known path e = FailsFile (TellsFailure reads known) path e
 
 -- The error is that of the first file that fails, and the files before it were read.
-pub record StopsGet (reads : Reads) (o : GetOptions) (content : List ℕ → Option (List ℕ))
+pub record StopsGet (reads : ByteAccess) (o : GetOptions) (content : List ℕ → Option (List ℕ))
     (paths : List (Bor (List ℕ))) (e : ToolError) : Type 0 where
   pub before : List (Bor (List ℕ))
   pub path : Bor (List ℕ)
