@@ -16,8 +16,8 @@ use Rattle.sst.specs.Showing.{DoesDump, DoesGet}
 use Rattle.sst.specs.Statuses.{status_of_answer, status_of_failure}
 use Rattle.sst.specs.Verified.{AreSoundFiles, HaveFaulty}
 
--- The task succeeds with this status, for this input and these files, and does exactly this. Of the
--- bytes of files that are read at an offset, so much is known.
+-- The task succeeds with this status, for this input and these files, and does exactly this. The
+-- bytes of a file that is read at an offset are known or not.
 abbrev pub DoesTask : ByteAccess → Task → Option (List ℕ) → (List ℕ → Option (List ℕ))
     → (List ℕ → Option Bool) → (known new : Option (List Step)) → (status : ℕ) → Type 0
 DoesTask reads (task.Write t) input content there known new status =

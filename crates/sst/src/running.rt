@@ -116,8 +116,8 @@ fn execute<'a, R: Files, C: Clock, P: Place, I: Read + Drop, W: Write, E: Write>
     shows_bar: bool,
 ) -> Result<u8, ToolError<'a>>
     ensures small { IfOk result (λ status. status ≤ 1) }
-    ensures does { IfOk result (λ status. spec.DoesTask P.File.reads task.now
-        (I.remaining input) (P.content place.old) (P.there place.old) (P.done place.old) (P.done place.new) status) }
+    ensures does { IfOk result (λ status. spec.DoesTask P.File.reads task.now (I.remaining input)
+        (P.content place.old) (P.there place.old) (P.done place.old) (P.done place.new) status) }
     ensures refused { IfErr result (λ e. spec.RefusesTask task.now (I.remaining input)
         (P.content place.old) (P.there place.old) (P.done place.old) e (P.done place.new)) }
 {
@@ -156,8 +156,8 @@ fn perform<'a, R: Files, C: Clock, P: Place, I: Read + Drop, W: Write, E: Write>
     shows_bar: bool,
 ) -> Result<u8, ToolError<'a>>
     ensures small { IfOk result (λ status. status ≤ 1) }
-    ensures does { IfOk result (λ status. spec.DoesTask P.File.reads task.now
-        (I.remaining input) (P.content place.old) (P.there place.old) (P.done place.old) (P.done place.new) status) }
+    ensures does { IfOk result (λ status. spec.DoesTask P.File.reads task.now (I.remaining input)
+        (P.content place.old) (P.there place.old) (P.done place.old) (P.done place.new) status) }
     ensures refused { IfErr result (λ e. spec.RefusesTask task.now (I.remaining input)
         (P.content place.old) (P.there place.old) (P.done place.old) e (P.done place.new)) }
 {

@@ -141,16 +141,16 @@ get_by reads o known path (error.Refused e) fails = fails
 get_by reads o known path e fails = absurd fails
 
 -- a file that is not opened
-pub not_opened : (reads : ByteAccess) (o : GetOptions) (known : Option (List ℕ)) (path : Bor (List ℕ))
-    (e : ToolError) → FailsOpen known path e → FailsGet reads o known path e
+pub not_opened : (reads : ByteAccess) (o : GetOptions) (known : Option (List ℕ))
+    (path : Bor (List ℕ)) (e : ToolError) → FailsOpen known path e → FailsGet reads o known path e
 not_opened reads o known path (error.File e) fails =
     (fails.0, told_failure reads known e.fault fails.1)
 not_opened reads o known path (error.Refused e) fails = fails
 not_opened reads o known path e fails = absurd fails
 
 -- one that does not open as a table
-pub not_table : (reads : ByteAccess) (o : GetOptions) (known : Option (List ℕ)) (path : Bor (List ℕ))
-    (e : FileError) → path_text e.name ≡ path.now → TellsFailure reads known e.fault
+pub not_table : (reads : ByteAccess) (o : GetOptions) (known : Option (List ℕ))
+    (path : Bor (List ℕ)) (e : FileError) → path_text e.name ≡ path.now → TellsFailure reads known e.fault
     → FailsGet reads o known path (error_of_file e)
 not_table reads o known path e named told =
     get_by reads o known path (error_of_file e)
@@ -202,8 +202,8 @@ read_fails reads o t path (failed.Table f) (error.Refused e) told gives sound at
 read_fails reads o t path (failed.Table f) e told gives sound at = absurd at
 
 -- the block that an error comes from says nothing of the file
-pub same_fails : (reads : ByteAccess) (o : GetOptions) (known : Option (List ℕ)) (path : Bor (List ℕ))
-    (e r : ToolError) → FailsGet reads o known path e → IsSameFailure e r
+pub same_fails : (reads : ByteAccess) (o : GetOptions) (known : Option (List ℕ))
+    (path : Bor (List ℕ)) (e r : ToolError) → FailsGet reads o known path e → IsSameFailure e r
     → FailsGet reads o known path r
 same_fails reads o known path (error.Unreadable name place e) (error.Unreadable again found f) fails
     is = (is.0 ∙ fails.0, subst (λ (g : Error). FailsRead o known g) (sym is.1) fails.1)
