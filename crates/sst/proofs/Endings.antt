@@ -16,7 +16,8 @@ use Rattle.sst.specs.Tasks.{DoesTask, RefusesTask, Runs, RunsAs, status_of_done}
 
 -- a task was done, and the output does not pass on what was printed
 pub not_passed_on : (reads : ByteAccess) (t : Task) (input : Option (List ℕ))
-    (content : List ℕ → Option (List ℕ)) (there : List ℕ → Option Bool) (known new : Option (List Step)) (status : ℕ) (e : Error)
+    (content : List ℕ → Option (List ℕ)) (there : List ℕ → Option Bool)
+    (known new : Option (List Step)) (status : ℕ) (e : Error)
     → DoesTask reads t input content there known new status
     → RefusesTask t input content there known (error.Output e) new
 not_passed_on reads (task.Write t) input content there known new status e does = inr (tt, does.1)

@@ -35,15 +35,15 @@ use Rattle.sst_tool.specs.declared.files.file_error.FileFault.TheVariants.{After
 use Rattle.sst_tool.specs.declared.files.file_error.FileFault.TheVariants.{Io, Left, NamesTaken, NotPlain}
 use Rattle.sst_tool.specs.declared.files.file_error.FileFault.TheVariants.{NotSynced, Refused, Taken}
 use Rattle.sst_tool.specs.declared.show.gets.GetOptions.{GetOptions}
-use Rattle.sst_tool.specs.files.Files.{IsReadFault, error_of_file, is_memory_fault, path_text}
-use Rattle.sst_tool.specs.files.Opened.{IsToldByBytes, TellsFailure, TellsRefused}
+use Rattle.sst_tool.specs.files.Files.{error_of_file, is_memory_fault, path_text}
+use Rattle.sst_tool.specs.files.Opened.{IsToldByBytes, TellsFailure}
 use Rattle.sst_tool.specs.make.Compacted.{each_alone}
 use Rattle.sst_tool.specs.show.Failures.{read_refusal}
 use Rattle.sst_tool.specs.show.Files.{IsSoundTable}
-use Rattle.sst_tool.specs.show.Gets.{FailsFile, FailsGet, FailsOpen, FailsRead, GetsFrom, IsFailureAt}
+use Rattle.sst_tool.specs.show.Gets.{FailsFile, FailsGet, FailsRead, GetsFrom, IsFailureAt}
 use Rattle.sst_tool.specs.show.Gets.{IsSameFailure, ReadsAll, ReadsFile, StopsGet}
 use Rattle.sst_tool.specs.show.Read.{seen_below}
-use Rattle.sst_tool.proofs.Opened.{opened_more, told_read}
+use Rattle.sst_tool.proofs.Opened.{opened_more}
 use Rattle.sst_tool.proofs.Steps.{list_at}
 
 -- ---- one table
@@ -56,10 +56,6 @@ recovered_of t told = record {
   returned = subst (λ (g : ℕ). recovered_result t.bytes g false false ≡ Ok t.parts) (sym told.1)
       told.0;
 }
-
-read_by : (key : List ℕ) (n : ℕ) (t : OpenTable) (b : Bool) → has_key (range_of t) key ≡ b
-    → run_read key n (t ∷ []) ≡ table_read key n (cond b (Some t) None)
-read_by key n t b is = ap (λ (c : Bool). table_read key n (cond c (Some t) None)) is
 
 -- a key that the range does not have
 pub read_outside : (key : List ℕ) (n : ℕ) (t : OpenTable) → has_key (range_of t) key ≡ false
@@ -108,20 +104,6 @@ refusal_is key n t = refusal_by key n t (has_key (range_of t) key)
 
 -- ---- an error
 
--- what is told of some bytes is told of any file that may have others
-told_failure : (reads : ByteAccess) (known : Option (List ℕ)) (fault : FileFault)
-    → TellsRefused false known fault → TellsFailure reads known fault
-told_failure reads known (Io e) told = inr told.1
-told_failure reads known (Refused e) told = told
-told_failure reads known Folder told = told
-told_failure reads known Taken told = told
-told_failure reads known NotPlain told = told
-told_failure reads known Left told = told
-told_failure reads known (CutShort n m) told = told
-told_failure reads known NamesTaken told = told
-told_failure reads known (AfterOthers n e) told = told
-told_failure reads known (NotSynced e) told = told
-
 file_by : (Tells : FileFault → Type 0) (path : Bor (List ℕ)) (e : FileError) (b : Bool)
     → is_memory_fault e.fault ≡ b → path_text e.name ≡ path.now → Tells e.fault
     → FailsFile Tells path (cond b (error.Refused OutOfMemory) (error.File e))
@@ -134,45 +116,11 @@ pub file_fails : (Tells : FileFault → Type 0) (path : Bor (List ℕ)) (e : Fil
 file_fails Tells path e named told =
     file_by Tells path e (is_memory_fault e.fault) refl named told
 
-get_by : (reads : ByteAccess) (o : GetOptions) (known : Option (List ℕ)) (path : Bor (List ℕ))
-    (e : ToolError) → FailsFile (TellsFailure reads known) path e → FailsGet reads o known path e
-get_by reads o known path (error.File e) fails = fails
-get_by reads o known path (error.Refused e) fails = fails
-get_by reads o known path e fails = absurd fails
-
--- a file that is not opened
-pub not_opened : (reads : ByteAccess) (o : GetOptions) (known : Option (List ℕ))
-    (path : Bor (List ℕ)) (e : ToolError) → FailsOpen known path e → FailsGet reads o known path e
-not_opened reads o known path (error.File e) fails =
-    (fails.0, told_failure reads known e.fault fails.1)
-not_opened reads o known path (error.Refused e) fails = fails
-not_opened reads o known path e fails = absurd fails
-
--- one that does not open as a table
-pub not_table : (reads : ByteAccess) (o : GetOptions) (known : Option (List ℕ))
-    (path : Bor (List ℕ)) (e : FileError) → path_text e.name ≡ path.now → TellsFailure reads known e.fault
-    → FailsGet reads o known path (error_of_file e)
-not_table reads o known path e named told =
-    get_by reads o known path (error_of_file e)
-    (file_fails (TellsFailure reads known) path e named told)
-
--- one that is not read
-pub not_read : (known : Option (List ℕ)) (path : Bor (List ℕ)) (e : FileError)
-    → path_text e.name ≡ path.now → IsReadFault e.fault
-    → (is_memory_fault e.fault ≡ false → known ≡ None) → FailsOpen known path (error_of_file e)
-not_read known path e named fault none =
-    file_fails (TellsRefused false known) path e named (told_read false known e.fault fault none)
-
 -- what holds of an error holds of the one that is passed on
 pub passed : {X : Type 0} (P : ToolError → Type 0) (r : Result X ToolError) (e : ToolError)
     → IsErrAnd r (λ y. y ≡ e) → P e → IfErr r P
 passed P (Ok x) e is holds = tt
 passed P (Err y) e is holds = subst P (sym is) holds
-
--- memory that runs out names no file
-pub none_left : (reads : ByteAccess) (o : GetOptions) (known : Option (List ℕ)) (path : Bor (List ℕ))
-    → FailsGet reads o known path (error.Refused OutOfMemory)
-none_left reads o known path = refl
 
 -- ---- a read that fails
 

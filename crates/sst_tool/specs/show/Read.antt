@@ -1,7 +1,7 @@
 -- The entries that are printed.
 use denote.Ref.{Bor}
 use Rattle.std.specs.Prelude.{◌≡◌, List, [], ◌∷◌, ℕ, Bool, false, true, reverse, take}
-use Rattle.std.specs.Prelude.{MatchResult, Option, None, Result, Ok, Err, Some, ◌-◌, ◌^◌, is_some}
+use Rattle.std.specs.Prelude.{MatchResult, Option, None, Result, Ok, Err, Some, ◌-◌, ◌^◌}
 use Rattle.std.specs.Option.{option_map_or}
 use Rattle.std.specs.declared.ops.Bound.{Bound}
 use Rattle.std.specs.declared.ops.Bound.TheVariants.{Excluded, Included, Unbounded}
