@@ -2,6 +2,7 @@
 use Rattle.std.proofs.Common.{◌≡◌, refl, subst, sym, ℕ, ◌≤◌, Bool, List, inl, inr}
 use Rattle.std.specs.Prelude.{IfErr, IfOk, MatchResult, None, Option, Result, Ok, Err}
 use Rattle.std.specs.declared.io.Error.{Error}
+use Rattle.lsm_files.specs.Reads.{ByteAccess, unknown}
 use Rattle.sst_tool.specs.files.Steps.{Step}
 use Rattle.sst_tool.specs.declared.files.error.ToolError.{ToolError}
 use Rattle.sst_tool.specs.declared.files.error.ToolError.TheVariants as error
@@ -14,17 +15,18 @@ use Rattle.sst.specs.Statuses.{status_of_failure}
 use Rattle.sst.specs.Tasks.{DoesTask, RefusesTask, Runs, RunsAs, status_of_done}
 
 -- a task was done, and the output does not pass on what was printed
-pub not_passed_on : (t : Task) (input : Option (List ℕ)) (content : List ℕ → Option (List ℕ))
-    (there : List ℕ → Option Bool) (known new : Option (List Step)) (status : ℕ) (e : Error)
-    → DoesTask t input content there known new status
+pub not_passed_on : (reads : ByteAccess) (t : Task) (input : Option (List ℕ))
+    (content : List ℕ → Option (List ℕ)) (there : List ℕ → Option Bool)
+    (known new : Option (List Step)) (status : ℕ) (e : Error)
+    → DoesTask reads t input content there known new status
     → RefusesTask t input content there known (error.Output e) new
-not_passed_on (task.Write t) input content there known new status e does = inr (tt, does.1)
-not_passed_on (task.Compact t) input content there known new status e does = inr (tt, does.1)
-not_passed_on (task.Pack t) input content there known new status e does = (does.1, inr tt)
-not_passed_on (task.Verify t) input content there known new status e does = (does.0, tt)
-not_passed_on (task.Get t) input content there known new status e does = does.0
-not_passed_on (task.Dump t) input content there known new status e does = does.1
-not_passed_on (task.Stat t) input content there known new status e does = does.1
+not_passed_on reads (task.Write t) input content there known new status e does = inr (tt, does.1)
+not_passed_on reads (task.Compact t) input content there known new status e does = inr (tt, does.1)
+not_passed_on reads (task.Pack t) input content there known new status e does = (does.1, inr tt)
+not_passed_on reads (task.Verify t) input content there known new status e does = (does.0, tt)
+not_passed_on reads (task.Get t) input content there known new status e does = does.0
+not_passed_on reads (task.Dump t) input content there known new status e does = does.1
+not_passed_on reads (task.Stat t) input content there known new status e does = does.1
 
 -- the status stays
 pub status_stays : (P : ℕ → Type 0) (r : Result ℕ ToolError) (status : ℕ)
@@ -56,7 +58,7 @@ runs_as {E} words input asked p status asks is runs =
 pub runs_task : {E : Type 0} (words : List (List ℕ)) (input : Option (List ℕ))
     (asked : Result Parsed E) (t : Task) (done : Result ℕ ToolError) (status : ℕ)
     → IfOk asked (AsksFrom words) → asked ≡ Ok (parsed.Task t)
-    → IfOk done (λ s. DoesTask t input (λ _. None) (λ _. None) None None s)
+    → IfOk done (λ s. DoesTask unknown t input (λ _. None) (λ _. None) None None s)
     → IfErr done (λ e. RefusesTask t input (λ _. None) (λ _. None) None e None)
     → MatchResult done (λ s. status ≡ s) (λ e. status ≡ status_of_failure e)
     → Runs words input status

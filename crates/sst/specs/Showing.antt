@@ -1,7 +1,7 @@
 -- The results of commands that show entries.
 use denote.Ref.{Bor}
 use Rattle.std.specs.Prelude.{◌≡◌, ◌⊎◌, ◌-◌, ◌^◌, ℕ, Bool, List, [], ◌∷◌, Option, None}
-use Rattle.std.specs.Prelude.{Ok, Some, false, is_some, length, map, true}
+use Rattle.std.specs.Prelude.{Some, false, length, map, true}
 use Rattle.std.specs.Option.{option_map, option_map_or}
 use Rattle.std.specs.List.{AllByRecursion}
 use Rattle.std.specs.Global.{Global}
@@ -10,17 +10,18 @@ use Rattle.lsm_sorted.specs.merge.Union.{Ascends, entries_among}
 use Rattle.lsm_sorted.specs.version.Run.{IsInOrder}
 use Rattle.lsm_runs.specs.RunLists.{RunsHoldLists}
 use Rattle.lsm_run_parts.specs.RunParts.{range_of}
-use Rattle.lsm_runs.specs.SeveralRuns.{runs_result}
 use Rattle.lsm_readers.specs.point.Table.{OpenTable}
 use Rattle.sst_entries.specs.Entry.{Entry}
 use Rattle.sst_tool.specs.files.Opened.{AreOpenedFrom, HasContent, IsToldByBytes}
 use Rattle.sst_tool.specs.lines.Escapes.{WordMeans}
 use Rattle.tool_options.specs.declared.tasks.DumpTask.{DumpTask}
 use Rattle.tool_options.specs.declared.tasks.GetTask.{GetTask}
+use Rattle.lsm_files.specs.Reads.{AreKnown, ByteAccess}
 use Rattle.sst_tool.specs.show.Files.{runs_in}
+use Rattle.sst_tool.specs.show.Gets.{GetsFrom}
 use Rattle.sst_tool.specs.show.Merged.{PrintsMerged, merged_entries, newest_found, newest_in}
 use Rattle.sst_tool.specs.show.Merged.{ranges_in}
-use Rattle.sst_tool.specs.show.Read.{dumped, readable, seen_below}
+use Rattle.sst_tool.specs.show.Read.{dumped, readable}
 use Rattle.sst_tool.specs.declared.show.dumps.DumpOptions.{DumpOptions}
 use Rattle.sst_tool.specs.declared.show.gets.GetOptions.{GetOptions}
 use Rattle.sst_tool.specs.declared.show.named.NamedTable.{NamedTable}
@@ -39,17 +40,13 @@ pub record AsksGet (task : GetTask) (o : GetOptions) : Type 0 where
   pub loads : o.loads ≡ task.loads
   pub format : o.format ≡ format_of task.json
 
--- The task's files are read together, and the result is whether the key has a visible version.
--- Nothing is said if a table's first key is above its last.
-pub record DoesGet (task : GetTask) (content : List ℕ → Option (List ℕ)) (there : Bool) : Type 0
-  where
-    pub options : GetOptions
-    pub asked : AsksGet task options
-    pub files : List (NamedTable Global)
-    pub named : AreNamed content task.files.items files
-    pub returned : AllByRecursion (IsInOrder range_of) (runs_in files) → (found : Option Entry)
-        × (runs_result options.key.now (seen_below options) None (runs_in files) ≡ Ok found)
-        × (there ≡ is_some found)
+-- The task's files are read together, and the result is whether the key has a visible version. Of
+-- files whose bytes are unknown, nothing more is said.
+pub record DoesGet (reads : ByteAccess) (task : GetTask) (content : List ℕ → Option (List ℕ))
+    (there : Bool) : Type 0 where
+  pub options : GetOptions
+  pub asked : AsksGet task options
+  pub returned : AreKnown reads → GetsFrom options content task.files.items there
 
 -- The optional key is what the optional word means.
 abbrev pub MeansKey : Option (Bor (List ℕ)) → Option (List ℕ) → Type 0

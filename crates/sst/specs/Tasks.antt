@@ -1,5 +1,6 @@
 -- The results of tasks and command lines.
 use Rattle.std.specs.Prelude.{◌≡◌, ◌≤◌, ◌⊎◌, ℕ, Bool, List, Option, None, IfErr, IfOk, Result, Ok, Err}
+use Rattle.lsm_files.specs.Reads.{ByteAccess, unknown}
 use Rattle.sst_tool.specs.files.Steps.{Step}
 use Rattle.sst_tool.specs.declared.files.error.ToolError.{ToolError}
 use Rattle.sst_tool.specs.declared.files.made.Made.{Made}
@@ -15,22 +16,23 @@ use Rattle.sst.specs.Showing.{DoesDump, DoesGet}
 use Rattle.sst.specs.Statuses.{status_of_answer, status_of_failure}
 use Rattle.sst.specs.Verified.{AreSoundFiles, HaveFaulty}
 
--- The task succeeds with this status, for this input and these files, and does exactly this.
-abbrev pub DoesTask : Task → Option (List ℕ) → (List ℕ → Option (List ℕ))
+-- The task succeeds with this status, for this input and these files, and does exactly this. The
+-- bytes of a file that is read at an offset are known or not.
+abbrev pub DoesTask : ByteAccess → Task → Option (List ℕ) → (List ℕ → Option (List ℕ))
     → (List ℕ → Option Bool) → (known new : Option (List Step)) → (status : ℕ) → Type 0
-DoesTask (task.Write t) input content there known new status =
+DoesTask reads (task.Write t) input content there known new status =
     (status ≡ 0) × ((made : Made) × WritesTables t input there made known new)
-DoesTask (task.Compact t) input content there known new status =
+DoesTask reads (task.Compact t) input content there known new status =
     (status ≡ 0) × ((made : Made) × CompactsTables t content made known new)
-DoesTask (task.Pack t) input content there known new status = (status ≡ 0) × (new ≡ known)
-DoesTask (task.Verify t) input content there known new status = (new ≡ known)
+DoesTask reads (task.Pack t) input content there known new status = (status ≡ 0) × (new ≡ known)
+DoesTask reads (task.Verify t) input content there known new status = (new ≡ known)
     × (status ≡ 0 → AreSoundFiles content t.files.items)
     × (status ≡ 1 → HaveFaulty content t.files.items)
-DoesTask (task.Get t) input content there known new status = (new ≡ known)
-    × ((found : Bool) × (status ≡ status_of_answer found) × DoesGet t content found)
-DoesTask (task.Dump t) input content there known new status =
+DoesTask reads (task.Get t) input content there known new status = (new ≡ known)
+    × ((found : Bool) × (status ≡ status_of_answer found) × DoesGet reads t content found)
+DoesTask reads (task.Dump t) input content there known new status =
     (status ≡ 0) × (new ≡ known) × DoesDump t content
-DoesTask (task.Stat t) input content there known new status = (status ≡ 0) × (new ≡ known)
+DoesTask reads (task.Stat t) input content there known new status = (status ≡ 0) × (new ≡ known)
 
 -- The task fails with this error, and does exactly this. Tasks that write no files do nothing to
 -- them.
@@ -54,7 +56,7 @@ status_of_done (Err e) = status_of_failure e
 -- status says whether that worked; or the words are wrong.
 abbrev pub RunsAs : Parsed → Option (List ℕ) → (status : ℕ) → Type 0
 RunsAs (parsed.Task t) input status = (done : Result ℕ ToolError)
-    × IfOk done (λ s. DoesTask t input (λ _. None) (λ _. None) None None s)
+    × IfOk done (λ s. DoesTask unknown t input (λ _. None) (λ _. None) None None s)
     × IfErr done (λ e. RefusesTask t input (λ _. None) (λ _. None) None e None)
     × (status ≡ status_of_done done)
 RunsAs (parsed.Shown shown) input status = status ≤ 1

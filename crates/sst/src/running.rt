@@ -6,6 +6,7 @@ use crate::{System, make, show};
 use sst_tool::files::{Place, ToolError};
 use sst_tool::lines::LineError;
 use std::convert::AsStr;
+use std::fs::File;
 use std::io;
 use std::io::{ErrorKind, Read, Write};
 use std::rt::{Clock, Files};
@@ -44,7 +45,7 @@ fn status_of_failure(failure: &ToolError<'_>) -> u8
 /// if the words are wrong. Results go to `output`. Error messages go to `errors`, and so does a
 /// progress bar if `shows_bar`. If the reader of the output closes its pipe, the command ends
 /// without a message, and with status 0 or that of what it found so far.
-pub fn run<S: AsStr, R: Files, C: Clock, I: Read + Drop, W: Write, E: Write>(
+pub fn run<S: AsStr, R: Files<File = File>, C: Clock, I: Read + Drop, W: Write, E: Write>(
     system: System<'_, R, C>,
     words: &[S],
     input: I,
@@ -115,7 +116,7 @@ fn execute<'a, R: Files, C: Clock, P: Place, I: Read + Drop, W: Write, E: Write>
     shows_bar: bool,
 ) -> Result<u8, ToolError<'a>>
     ensures small { IfOk result (λ status. status ≤ 1) }
-    ensures does { IfOk result (λ status. spec.DoesTask task.now (I.remaining input)
+    ensures does { IfOk result (λ status. spec.DoesTask P.File.reads task.now (I.remaining input)
         (P.content place.old) (P.there place.old) (P.done place.old) (P.done place.new) status) }
     ensures refused { IfErr result (λ e. spec.RefusesTask task.now (I.remaining input)
         (P.content place.old) (P.there place.old) (P.done place.old) e (P.done place.new)) }
@@ -155,7 +156,7 @@ fn perform<'a, R: Files, C: Clock, P: Place, I: Read + Drop, W: Write, E: Write>
     shows_bar: bool,
 ) -> Result<u8, ToolError<'a>>
     ensures small { IfOk result (λ status. status ≤ 1) }
-    ensures does { IfOk result (λ status. spec.DoesTask task.now (I.remaining input)
+    ensures does { IfOk result (λ status. spec.DoesTask P.File.reads task.now (I.remaining input)
         (P.content place.old) (P.there place.old) (P.done place.old) (P.done place.new) status) }
     ensures refused { IfErr result (λ e. spec.RefusesTask task.now (I.remaining input)
         (P.content place.old) (P.there place.old) (P.done place.old) e (P.done place.new)) }

@@ -148,7 +148,7 @@ pub(crate) fn get<'a, P: Place, W: Write>(
     task: &GetTask<'a>,
     output: &mut W,
 ) -> Result<bool, ToolError<'a>>
-    ensures { IfOk result (spec.DoesGet task.now (P.content place.now)) }
+    ensures { IfOk result (spec.DoesGet P.File.reads task.now (P.content place.now)) }
 {
     let key = key_bytes(alloc, KeyWord::Key, task.key)?;
     let options = GetOptions {
@@ -157,8 +157,7 @@ pub(crate) fn get<'a, P: Place, W: Write>(
         loads: task.loads,
         format: format_of(task.json),
     };
-    let tables = open_each(alloc, place, task.files.as_slice())?;
-    sst_tool::show::get(alloc, output, tables.as_slice(), &options)
+    sst_tool::show::get(alloc, output, place, task.files.as_slice(), &options)
 }
 
 /// Prints the metadata of tables.

@@ -1,20 +1,16 @@
 -- Files, one after another.
 use Rattle.std.proofs.Common.{◌≡◌, refl, sym, ◌∙◌, ap, ℕ, ◌+◌, ◌<◌, List, [], ◌∷◌, ◌++◌, length, get_or}
 use Rattle.std.proofs.Common.{arith, map, subst, suc, take, true, false, zero}
-use Rattle.std.specs.Prelude.{Bool, Option, None, Some, Result, Ok, Err, IfErr, IfSome, cond, find, is_some}
-use Rattle.std.specs.Result.{result_err}
-use Rattle.sst_entries.specs.declared.error.Error.TheVariants.{OutOfMemory}
+use Rattle.std.specs.Prelude.{Bool, Option, None, Some, cond, find}
 use Rattle.std.proofs.lemmas.List.{map-append, take_more}
-use Rattle.sst_entries.specs.Entry.{Entry}
 use Rattle.sst_entries.specs.Error.{is_memory}
 use Rattle.sst_entries.specs.declared.error.Error.{Error}
-use Rattle.lsm_readers.specs.Stored.{StoresList}
 use Rattle.lsm_readers.specs.point.Table.{OpenTable}
 use Rattle.sst_tool.specs.declared.files.error.ToolError.{ToolError}
 use Rattle.sst_tool.specs.declared.files.error.ToolError.TheVariants as error
-use Rattle.sst_tool.specs.show.Failures.{BlamesFaulty, BlamesFile, FailsAs, NamesFaulty, NamesNone}
-use Rattle.sst_tool.specs.show.Failures.{NamesOnly, NamesRefusal, read_refusal, refused_file}
-use Rattle.sst_tool.specs.show.Files.{IsSoundTable, runs_in}
+use Rattle.sst_tool.specs.show.Failures.{BlamesFile, FailsAs, NamesNone}
+use Rattle.sst_tool.specs.show.Failures.{NamesOnly, NamesRefusal}
+use Rattle.sst_tool.specs.show.Files.{runs_in}
 use Rattle.sst_tool.specs.declared.show.named.NamedTable.{NamedTable}
 
 -- the run of one more file
@@ -80,20 +76,6 @@ found_here p (y ∷ ys) (suc i) x h is none so =
     found_behind p y (take i ys) ys x none
     (λ before. found_here p ys i x (omega (arith, h)) is before so)
 
--- what one of the files is blamed for
-pub one_named : {A : Type 0} (key : List ℕ) (n : ℕ) (fs : List (NamedTable A)) (i : ℕ)
-    (f : NamedTable A) → i < length fs → f ≡ get_or fs i f
-    → refused_file key n (take i fs) ≡ None → (e : ToolError) → BlamesFaulty key n f e
-    → NamesFaulty key n fs e
-one_named {A} key n fs i f h is before (error.Unreadable name at e) returned = (
-  f,
-  found_here (λ (g : NamedTable A). is_some (read_refusal key n g.table)) fs i f h is before
-      (ap is_some returned.1),
-  returned,
-)
-one_named key n fs i f h is before (error.Refused e) returned = returned
-one_named key n fs i f h is before e returned = tt
-
 named_refusal : {A : Type 0} (f : NamedTable A) (IsReported : Error → Type 0) (r : Error)
     (e : ToolError) → IsReported r → NamesRefusal f r e → NamesOnly f IsReported e
 named_refusal f IsReported r (error.Unreadable name at x) is returned =
@@ -125,43 +107,3 @@ pub blames_other : {A : Type 0} (f : NamedTable A) (x : ToolError)
     → ((r : Error) → x ≡ error.Refused r → ⊥) → BlamesFile f x x
 blames_other f (error.Refused r) other = absurd (other r refl)
 blames_other f x other = refl
-
--- a read that is refused, and not for want of memory, is one of a file that stores no list
-pub refused_faulty : {X : Type 0} (r : Result X Error) (e : Error) → r ≡ Err e
-    → is_memory e ≡ false → IfErr r (λ x. x ≡ OutOfMemory) → ⊥
-refused_faulty (Ok x) e is other memory = absurd cc
-refused_faulty (Err x) e is other memory =
-    let same : x ≡ e = cc in
-    let both : true ≡ false = sym (ap is_memory (sym same ∙ memory)) ∙ other in
-    absurd cc
-
-faulty_named : {A : Type 0} (key : List ℕ) (n : ℕ) (f : NamedTable A) (r : Error) (e : ToolError)
-    → read_refusal key n f.table ≡ Some r → (IsSoundTable f.table → ⊥) → NamesRefusal f r e
-    → BlamesFaulty key n f e
-faulty_named key n f r (error.Unreadable name at x) returned faulty is =
-    (is.0, returned ∙ ap Some (sym is.1), faulty)
-faulty_named key n f r e returned faulty is = absurd is
-
-blamed_by : {A : Type 0} (key : List ℕ) (n : ℕ) (f : NamedTable A) (r : Error) (e : ToolError)
-    (b : Bool) → is_memory r ≡ b → (is_memory r ≡ false → read_refusal key n f.table ≡ Some r)
-    → (is_memory r ≡ false → IsSoundTable f.table → ⊥) → BlamesFile f (error.Refused r) e
-    → BlamesFaulty key n f e
-blamed_by key n f r e true so returned faulty is =
-    subst (λ (x : ToolError). BlamesFaulty key n f x) (sym (is.0 so)) so
-blamed_by key n f r e false so returned faulty is =
-    faulty_named key n f r e (returned so) (faulty so) (is.1 so)
-
--- a file is blamed for what a read of its table is refused
-pub read_blamed : {A : Type 0} (key : List ℕ) (n : ℕ) (f : NamedTable A) (r : Error)
-    (e : ToolError) → (is_memory r ≡ false → read_refusal key n f.table ≡ Some r)
-    → (is_memory r ≡ false → IsSoundTable f.table → ⊥) → BlamesFile f (error.Refused r) e
-    → BlamesFaulty key n f e
-read_blamed key n f r e returned faulty is = blamed_by key n f r e (is_memory r) refl returned faulty is
-
--- so it is with what a call of it answers as its error
-pub error_faulty : {X : Type 0} (r : Result X Error) (t : OpenTable)
-    → ((es : List Entry) → StoresList t.bytes es → IfErr r (λ x. x ≡ OutOfMemory))
-    → IfSome (result_err r) (λ e. is_memory e ≡ false → IsSoundTable t → ⊥)
-error_faulty {X} (Ok x) t memory = tt
-error_faulty {X} (Err e) t memory =
-    λ other sound. refused_faulty {X = X} (Err e) e refl other (memory sound.0 sound.1)

@@ -16,6 +16,7 @@ pub mod FileLemmas
 pub mod Findings
 pub mod Blaming
 pub mod FromLibrary
+pub mod Gets
 pub mod LineLemmas
 pub mod LinesLaw
 pub mod MergedLemmas

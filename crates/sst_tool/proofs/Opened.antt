@@ -1,7 +1,7 @@
 -- Tables that are opened.
 use denote.Ref.{Bor}
 use Rattle.std.proofs.Common.{◌≡◌, sym, ◌∙◌, ap, subst, ℕ, ◌+◌, ◌<◌, List, [], ◌∷◌, ◌++◌}
-use Rattle.std.proofs.Common.{Bool, true, false, true≢false, get_or, length, refl, take, drop}
+use Rattle.std.proofs.Common.{Bool, true, false, true≢false, get_or, inl, length, refl, take, drop}
 use Rattle.std.specs.Prelude.{IfErr, IfOk, IfSome, Option, Some, None, Result, Ok, Err}
 use Rattle.std.specs.Result.{IsErrAnd}
 use Rattle.std.proofs.lemmas.List.{get_or_default, take_more}
@@ -9,6 +9,10 @@ use Rattle.lsm_readers.specs.point.Parts.{recovered_result}
 use Rattle.lsm_readers.specs.point.Table.{OpenTable}
 use Rattle.sst_entries.specs.Error.{Gives, is_memory}
 use Rattle.sst_entries.specs.declared.error.Error.{Error}
+use Rattle.lsm_files.specs.declared.error.FileError.{FileError as ReadError}
+use Rattle.lsm_files.specs.declared.error.FileError.TheVariants as failed
+use Rattle.lsm_files.specs.Reads.{ByteAccess}
+use Rattle.lsm_files.specs.Results.{FileGives}
 use Rattle.sst_tool.specs.declared.files.file_error.FileError.{FileError}
 use Rattle.sst_tool.specs.declared.files.file_error.FileFault.{FileFault}
 use Rattle.sst_tool.specs.declared.files.file_error.FileFault.TheVariants.{AfterOthers, CutShort, Folder}
@@ -16,7 +20,7 @@ use Rattle.sst_tool.specs.declared.files.file_error.FileFault.TheVariants.{Io, L
 use Rattle.sst_tool.specs.declared.files.file_error.FileFault.TheVariants.{NotSynced, Refused, Taken}
 use Rattle.sst_tool.specs.files.Files.{IsReadFault, is_memory_fault, path_text}
 use Rattle.sst_tool.specs.files.Opened.{AreOpenedFrom, HasContent, IsToldByBytes, StopsOpening}
-use Rattle.sst_tool.specs.files.Opened.{TellsRefused}
+use Rattle.sst_tool.specs.files.Opened.{TellsFailure, TellsRefused, fault_of_read}
 use Rattle.sst_tool.proofs.Steps.{list_at}
 
 -- what is told of some bytes is told of the table's
@@ -76,6 +80,27 @@ refused_told pinned None bytes e same returned = tt
 refused_told pinned (Some k) bytes e same returned =
     subst (λ (bs : List ℕ). Gives (λ (t : OpenTable). t.parts) (Err e)
     (recovered_result bs 0 pinned pinned)) same returned
+
+-- ---- a table in its file
+
+pub opening_told : (reads : ByteAccess) (t : OpenTable) (bytes : List ℕ) → t.bytes ≡ bytes
+    → t.global_seqno ≡ 0
+    → FileGives reads (λ (u : OpenTable). u.parts) (Ok t) (recovered_result bytes 0 false false)
+    → IsToldByBytes false t
+opening_told reads t bytes same number gives = (
+  subst (λ (bs : List ℕ). recovered_result bs 0 false false ≡ Ok t.parts) (sym same) gives,
+  number,
+)
+
+-- the fault of one that does not open
+pub opening_fails : (reads : ByteAccess) (bytes : List ℕ) (e : ReadError) (fault : FileFault)
+    → fault ≡ fault_of_read e
+    → FileGives {X = OpenTable} reads (λ u. u.parts) (Err e) (recovered_result bytes 0 false false)
+    → TellsFailure reads (Some bytes) fault
+opening_fails reads bytes (failed.Io e) fault is gives =
+    subst (TellsFailure reads (Some bytes)) (sym is) (inl gives)
+opening_fails reads bytes (failed.Table e) fault is gives =
+    subst (TellsFailure reads (Some bytes)) (sym is) gives
 
 -- ---- several files
 

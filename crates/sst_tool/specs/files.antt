@@ -1,3 +1,4 @@
+pub mod Contents
 pub mod Ended
 pub mod Files
 pub mod Folders

@@ -1,5 +1,6 @@
 //! Table files: reads, opens and writes them, each write complete before it gets its name.
 
+mod contents;
 mod error;
 mod escaped;
 mod file_error;
@@ -15,6 +16,7 @@ mod read;
 mod target;
 mod write;
 
+pub use contents::Contents;
 pub use error::{BlockPlace, KeyWord, LineFault, RefusedAt, ToolError, section_name};
 pub use escaped::Escaped;
 pub use file_error::{FileError, FileFault};
@@ -23,8 +25,8 @@ pub use free::check_free;
 pub use made::{Made, print_made};
 pub use new_folder::place_folder;
 pub use numbered::table_files;
-pub use open::{open_bytes, open_table, open_tables};
+pub use open::{open_bytes, open_file_table, open_table, open_tables};
 pub use place::{Disk, Place};
-pub use read::{read_file, read_whole};
+pub use read::{open_file, read_file, read_whole};
 pub use target::largest_table;
 pub use write::{NewFile, place_files, place_series};

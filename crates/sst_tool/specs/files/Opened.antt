@@ -1,13 +1,16 @@
 -- Opened tables.
 use denote.Ref.{Bor}
-use Rattle.std.specs.Prelude.{◌≡◌, ℕ, Bool, List, [], ◌∷◌, ◌++◌, Option, None, IfSome, Ok, Err}
-use Rattle.std.specs.Prelude.{length, true}
+use Rattle.std.specs.Prelude.{◌≡◌, ◌⊎◌, ℕ, Bool, List, [], ◌∷◌, ◌++◌, Option, None, IfSome, Ok, Err}
+use Rattle.std.specs.Prelude.{false, length, true}
+use Rattle.lsm_files.specs.declared.error.FileError.{FileError as ReadError}
+use Rattle.lsm_files.specs.declared.error.FileError.TheVariants as failed
+use Rattle.lsm_files.specs.Reads.{MayFail, ByteAccess}
 use Rattle.lsm_readers.specs.point.Parts.{recovered_result}
 use Rattle.lsm_readers.specs.point.Table.{OpenTable}
 use Rattle.sst_entries.specs.Error.{Gives}
 use Rattle.sst_tool.specs.declared.files.file_error.FileError.{FileError}
 use Rattle.sst_tool.specs.declared.files.file_error.FileFault.{FileFault}
-use Rattle.sst_tool.specs.declared.files.file_error.FileFault.TheVariants.{Refused}
+use Rattle.sst_tool.specs.declared.files.file_error.FileFault.TheVariants.{Io, Refused}
 use Rattle.sst_tool.specs.files.Files.{IsReadFault, path_text}
 
 -- The table is what its bytes decode to, with stored sequence numbers, and with index and filter
@@ -44,6 +47,16 @@ TellsRefused pinned known (Refused e) =
     IfSome known (λ bytes. Gives (λ (u : OpenTable). u.parts) (Err e)
     (recovered_result bytes 0 pinned pinned))
 TellsRefused pinned known fault = IsReadFault fault × (known ≡ None)
+
+-- The fault of a file whose table fails with this error.
+abbrev pub fault_of_read : ReadError → FileFault
+fault_of_read (failed.Io e) = Io e
+fault_of_read (failed.Table e) = Refused e
+
+-- The same of a file that is read at an offset: also, a read may have failed.
+abbrev pub TellsFailure : ByteAccess → Option (List ℕ) → FileFault → Type 0
+TellsFailure reads known (Io e) = MayFail reads ⊎ (known ≡ None)
+TellsFailure reads known fault = TellsRefused false known fault
 
 -- Files were opened up to the first that fails, and the error names it.
 pub record StopsOpening (pinned : Bool) (content : List ℕ → Option (List ℕ))

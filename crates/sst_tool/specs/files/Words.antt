@@ -8,6 +8,8 @@ pub use Rattle.std.specs.Option.{option_copied, option_map}
 pub use Rattle.lsm_readers.specs.point.Parts.{recovered_result}
 pub use Rattle.lsm_readers.specs.point.Table.{OpenTable}
 pub use Rattle.sst_entries.specs.Error.{Gives}
+pub use Rattle.lsm_files.specs.Reads.{AreKnown}
+pub use Rattle.sst_tool.specs.files.Contents.{bytes_in}
 pub use Rattle.sst_tool.specs.files.Files.{IsBeside, IsCutBehind, IsCutShort, IsReadFault}
 pub use Rattle.sst_tool.specs.files.Files.{is_memory_fault, path_text}
 pub use Rattle.sst_tool.specs.files.Folders.{folder_of, or_here}
@@ -21,7 +23,7 @@ pub use Rattle.sst_tool.specs.files.NewFolders.{filling_all, naming_folder, numb
 pub use Rattle.sst_tool.specs.files.NewFolders.{table_bytes}
 pub use Rattle.sst_tool.specs.files.Numbered.{named_bytes, numbered_files, numbered_path, with_number}
 pub use Rattle.sst_tool.specs.files.Opened.{AreOpenedFrom, HasContent, IsToldByBytes, StopsOpening}
-pub use Rattle.sst_tool.specs.files.Opened.{TellsRefused}
+pub use Rattle.sst_tool.specs.files.Opened.{TellsFailure, TellsRefused, fault_of_read}
 pub use Rattle.sst_tool.specs.files.Placed.{AreBeside, AreInPlace, AreNotPlaced, AreNotPlacedBefore}
 pub use Rattle.sst_tool.specs.files.Placed.{AreNotPut, ArePut, IfLeft, IsBesideOne, IsEarly}
 pub use Rattle.sst_tool.specs.files.Placed.{IsLookFault, IsNotSynced, StopSyncing}

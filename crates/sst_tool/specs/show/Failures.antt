@@ -1,6 +1,5 @@
 -- The errors of showing tables.
-use Rattle.std.specs.Prelude.{◌≡◌, ℕ, List, Option, None, Some, false, true, find, is_some}
-use Rattle.std.specs.Prelude.{if◌then◌else◌}
+use Rattle.std.specs.Prelude.{◌≡◌, ℕ, List, Option, None, false, true, if◌then◌else◌}
 use Rattle.sst_entries.specs.Error.{is_memory}
 use Rattle.sst_entries.specs.declared.error.Error.{Error}
 use Rattle.lsm_sorted.specs.version.KeyRange.{has_key}
@@ -10,7 +9,6 @@ use Rattle.lsm_readers.specs.point.Table.{OpenTable}
 use Rattle.lsm_run_parts.specs.RunParts.{range_of}
 use Rattle.sst_tool.specs.declared.files.error.ToolError.{ToolError}
 use Rattle.sst_tool.specs.declared.files.error.ToolError.TheVariants as error
-use Rattle.sst_tool.specs.show.Files.{IsSoundTable}
 use Rattle.sst_tool.specs.declared.show.named.NamedTable.{NamedTable}
 
 -- The error names this file, with this error of its table.
@@ -46,22 +44,3 @@ NamesOnly f IsReported e = Unit {0}
 abbrev pub read_refusal : List ℕ → ℕ → OpenTable → Option Error
 read_refusal key n t =
     if has_key (range_of t) key then fault_of (table_answer t key n).returned else None
-
--- The first of these files whose table fails the read.
-abbrev pub refused_file : {A : Type 0} → List ℕ → ℕ → List (NamedTable A) → Option (NamedTable A)
-refused_file key n fs = find (λ f. is_some (read_refusal key n f.table)) fs
-
--- An error that names a file names this one: its table fails the read with this error, and it
--- stores no list.
-abbrev pub BlamesFaulty : {A : Type 0} → List ℕ → ℕ → NamedTable A → ToolError → Type 0
-BlamesFaulty key n f (error.Unreadable name at e) =
-    (name ≡ f.name) × (read_refusal key n f.table ≡ Some e) × (IsSoundTable f.table → ⊥)
-BlamesFaulty key n f (error.Refused e) = is_memory e ≡ true
-BlamesFaulty key n f e = Unit {0}
-
--- An error that names a file names the first of these whose table fails the read.
-abbrev pub NamesFaulty : {A : Type 0} → List ℕ → ℕ → List (NamedTable A) → ToolError → Type 0
-NamesFaulty {A} key n fs (error.Unreadable name at e) = (f : NamedTable A)
-    × (refused_file key n fs ≡ Some f) × BlamesFaulty key n f (error.Unreadable name at e)
-NamesFaulty key n fs (error.Refused e) = is_memory e ≡ true
-NamesFaulty key n fs e = Unit {0}

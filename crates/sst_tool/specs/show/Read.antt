@@ -1,7 +1,7 @@
 -- The entries that are printed.
 use denote.Ref.{Bor}
 use Rattle.std.specs.Prelude.{◌≡◌, List, [], ◌∷◌, ℕ, Bool, false, true, reverse, take}
-use Rattle.std.specs.Prelude.{MatchResult, Option, None, Result, Ok, Err, Some, ◌-◌, ◌^◌, is_some}
+use Rattle.std.specs.Prelude.{MatchResult, Option, None, Result, Ok, Err, Some, ◌-◌, ◌^◌}
 use Rattle.std.specs.Option.{option_map_or}
 use Rattle.std.specs.declared.ops.Bound.{Bound}
 use Rattle.std.specs.declared.ops.Bound.TheVariants.{Excluded, Included, Unbounded}
@@ -12,7 +12,6 @@ use Rattle.sst_entries.specs.declared.error.Error.{Error}
 use Rattle.lsm_iters.specs.block_index.Yielded.{YieldsEnding}
 use Rattle.lsm_readers.specs.point.Table.{OpenTable}
 use Rattle.lsm_readers.specs.Words.{lift, range_results}
-use Rattle.lsm_runs.specs.SeveralRuns.{runs_result}
 use Rattle.sst_tool.specs.declared.files.error.ToolError.{ToolError}
 use Rattle.sst_tool.specs.declared.files.error.ToolError.TheVariants.{Refused}
 use Rattle.sst_tool.specs.show.Failures.{NamesNone}
@@ -22,11 +21,6 @@ use Rattle.sst_tool.specs.declared.show.gets.GetOptions.{GetOptions}
 -- The snapshot of the read.
 abbrev pub seen_below : GetOptions → ℕ
 seen_below o = option_map_or (λ n. n) o.at (2 ^ 64 - 1)
-
--- The read of the key in these runs finds an entry, or none, as returned.
-abbrev pub FindsIn : GetOptions → List (List OpenTable) → Bool → Type 0
-FindsIn o runs there = (found : Option Entry)
-    × (runs_result o.key.now (seen_below o) None runs ≡ Ok found) × (there ≡ is_some found)
 
 -- The list, or its reverse.
 abbrev pub in_turn : {X : Type 0} → Bool → List X → List X

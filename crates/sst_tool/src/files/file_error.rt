@@ -101,6 +101,20 @@ impl From<Error> for FileFault {
     }
 }
 
+impl From<lsm_files::FileError> for FileFault {
+    ghost use Rattle.std.specs.Prelude.{◌≡◌};
+    ghost use Rattle.sst_tool.specs.files.Opened.{fault_of_read};
+
+    ghost from_gives = { λ error fault. fault ≡ fault_of_read error };
+
+    fn from(error: lsm_files::FileError) -> FileFault {
+        match error {
+            lsm_files::FileError::Io(error) => FileFault::Io(error),
+            lsm_files::FileError::Table(error) => FileFault::Refused(error),
+        }
+    }
+}
+
 impl From<AllocError> for FileFault {
     ghost use Rattle.std.specs.Prelude.{◌≡◌};
     ghost use Rattle.sst_entries.specs.declared.error.Error.TheVariants.{OutOfMemory};

@@ -1,8 +1,10 @@
 //! Opens files as tables.
-ghost use Rattle.std.specs.Prelude.{◌≡◌, ◌++◌, ◌∷◌, [], Any, IfErr, IfOk, OnOk, length, true};
+ghost use Rattle.std.specs.Prelude.{◌≡◌, ◌++◌, ◌∷◌, [], Any, IfErr, IfOk, OnOk, Some, false};
+ghost use Rattle.std.specs.Prelude.{length, true};
 ghost use Rattle.sst_tool.specs.files.Words as spec;
 
 use crate::files::{FileError, FileFault, FileName, Place, read_file};
+use lsm_files::{FileTable, ReadAt};
 use lsm_readers::Table;
 use sst_blocks::{Checksum, Error, Slice};
 use std::alloc::Allocator;
@@ -53,6 +55,35 @@ pub fn open_table<'a, P: Place, A: Allocator + Copy>(
         Err(error) => Err(FileError {
             name: FileName::Plain(path),
             fault: FileFault::Refused(error),
+        }),
+    }
+}
+
+/// Opens a table that stays in its file, with the sequence numbers as stored. Only top levels of
+/// partitions are pinned, and each read loads the blocks that it needs.
+///
+/// # Errors
+///
+/// Fails with [`FileFault::Io`] if a read fails, and as [`Table::recover`] does for the file's
+/// bytes.
+pub fn open_file_table<'a, R: ReadAt + Drop, A: Allocator + Copy>(
+    alloc: A,
+    file: R,
+    path: &'a str,
+) -> Result<FileTable<R, A>, FileError<'a>>
+    // The table has the bytes of the file, and is what they decode to, if they are known.
+    ensures recovered { spec.AreKnown R.reads → IfOk result (spec.IsToldByBytes false) }
+    ensures bytes { IfOk result (λ t. t.bytes ≡ R.bytes file) }
+    // An error names the file, and is the one that its bytes decode to.
+    ensures named { IfErr result (λ e. spec.path_text e.name ≡ path.now) }
+    ensures returned { spec.AreKnown R.reads → IfErr result (λ e.
+        spec.TellsFailure R.reads (Some (R.bytes file)) e.fault) }
+{
+    match FileTable::open(alloc, file, Checksum(0), 0, 0, false, false) {
+        Ok(table) => Ok(table),
+        Err(error) => Err(FileError {
+            name: FileName::Plain(path),
+            fault: FileFault::from(error),
         }),
     }
 }

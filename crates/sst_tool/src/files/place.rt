@@ -3,11 +3,12 @@ ghost use Rattle.std.specs.Prelude.{◌≡◌, ◌∷◌, [], ℕ, Bool, IfErr, 
 ghost use Rattle.std.specs.Prelude.{OnOk, Option, false, is_some, not, true};
 ghost use Rattle.sst_tool.specs.files.Words as spec;
 
-use crate::files::FileFault;
-use crate::files::read::read_path;
+use crate::files::read::{open_path, read_path};
+use crate::files::{Contents, FileFault};
+use lsm_files::ReadAt;
 use sst_blocks::Slice;
 use std::alloc::Allocator;
-use std::fs::{Metadata, OpenFile, OpenOptions, Permissions};
+use std::fs::{File, Metadata, OpenFile, OpenOptions, Permissions};
 use std::io::{ErrorKind, Write};
 use std::os::unix::fs::OpenOptionsExt;
 use std::path::Path;
@@ -16,6 +17,9 @@ use std::{fs, io};
 
 /// A file system. [`Disk`] is that of the machine; in contracts another one can record each step.
 pub trait Place {
+    /// A regular file, which is read at an offset.
+    type File: ReadAt + Drop;
+
     // The steps done, in their order, if known.
     ghost done: { Self → Option (List spec.Step) };
 
@@ -37,6 +41,24 @@ pub trait Place {
     fn read<A: Allocator + Copy>(&self, alloc: A, path: &str) -> Result<Slice<A>, FileFault>
         ensures bytes { IfOk result (λ bytes.
             IfSome (content self.now path.now) (λ known. bytes ≡ known)) }
+        ensures refused { IfErr result spec.IsReadFault }
+        ensures known { IfErr result (λ fault.
+            spec.is_memory_fault fault ≡ false → content self.now path.now ≡ None) };
+
+    /// Opens a file, which is read at an offset. A file without a size, such as a pipe, is read to
+    /// its end.
+    ///
+    /// # Errors
+    ///
+    /// Fails if the file cannot be opened, and with `OutOfMemory`. A file whose bytes are known
+    /// fails only with `OutOfMemory`.
+    fn open<A: Allocator + Copy>(
+        &self,
+        alloc: A,
+        path: &str,
+    ) -> Result<Contents<Self::File, A>, FileFault>
+        ensures bytes { IfOk result (λ contents. IfSome (content self.now path.now)
+            (λ known. spec.bytes_in Self.File.bytes contents ≡ known)) }
         ensures refused { IfErr result spec.IsReadFault }
         ensures known { IfErr result (λ fault.
             spec.is_memory_fault fault ≡ false → content self.now path.now ≡ None) };
@@ -150,7 +172,9 @@ pub struct Disk<'r, R: Files> {
     pub files: &'r R,
 }
 
-impl<'r, R: Files> Place for Disk<'r, R> {
+impl<'r, R: Files<File = File>> Place for Disk<'r, R> {
+    type File = File;
+
     ghost done = { λ _. None };
 
     ghost there = { λ _ _. None };
@@ -161,6 +185,14 @@ impl<'r, R: Files> Place for Disk<'r, R> {
 
     fn read<A: Allocator + Copy>(&self, alloc: A, path: &str) -> Result<Slice<A>, FileFault> {
         read_path(self.files, alloc, path)
+    }
+
+    fn open<A: Allocator + Copy>(
+        &self,
+        alloc: A,
+        path: &str,
+    ) -> Result<Contents<File, A>, FileFault> {
+        open_path(self.files, alloc, path)
     }
 
     fn look(&self, path: &str) -> io::Result<Option<Metadata>> {

@@ -1,8 +1,8 @@
-//! Reads whole files.
+//! Opens files, and reads whole files.
 ghost use Rattle.std.specs.Prelude.{◌≡◌, ◌≤◌, IfErr, IfOk, IfSome, None, OnOk, Some, false, length};
 ghost use Rattle.sst_tool.specs.files.Words as spec;
 
-use crate::files::{FileError, FileFault, FileName, Place};
+use crate::files::{Contents, FileError, FileFault, FileName, Place};
 use sst_blocks::Slice;
 use std::alloc::Allocator;
 use std::fs;
@@ -37,6 +37,56 @@ pub fn read_file<'a, P: Place, A: Allocator + Copy>(
             fault,
         }),
     }
+}
+
+/// Opens a file by [`Place::open`].
+///
+/// # Errors
+///
+/// Fails as [`Place::open`] does, with the name of the file.
+pub fn open_file<'a, P: Place, A: Allocator + Copy>(
+    place: &P,
+    alloc: A,
+    path: &'a str,
+) -> Result<Contents<P::File, A>, FileError<'a>>
+    // Its bytes are those at the path, if these are known.
+    ensures bytes { IfOk result (λ contents. IfSome (P.content place.now path.now)
+        (λ known. spec.bytes_in P.File.bytes contents ≡ known)) }
+    // An error names the file.
+    ensures named { IfErr result (λ e. spec.path_text e.name ≡ path.now) }
+    ensures refused { IfErr result (λ e. spec.IsReadFault e.fault) }
+    // If the bytes are known, the only error is `OutOfMemory`.
+    ensures known { IfErr result (λ e.
+        spec.is_memory_fault e.fault ≡ false → P.content place.now path.now ≡ None) }
+{
+    match place.open(alloc, path) {
+        Ok(contents) => Ok(contents),
+        Err(fault) => Err(FileError {
+            name: FileName::Plain(path),
+            fault,
+        }),
+    }
+}
+
+/// Opens a file of the system, or reads a pipe until its end.
+///
+/// # Errors
+///
+/// Fails with an error of the system, with [`FileFault::Folder`] for a folder, and with
+/// `OutOfMemory`.
+pub(crate) fn open_path<R: Files, A: Allocator + Copy>(
+    files: &R,
+    alloc: A,
+    path: &str,
+) -> Result<Contents<R::File, A>, FileFault>
+    ensures { IfErr result spec.IsReadFault }
+{
+    let mut file = fs::open(files, path)?;
+    if size_of(&file.metadata()?)?.is_some() {
+        return Ok(Contents::File(file));
+    }
+    let bytes = read_whole(alloc, &mut file, None)?;
+    Ok(Contents::Memory(bytes))
 }
 
 /// Returns all bytes of a file of the system, or of a pipe until its end.

@@ -1,20 +1,20 @@
 //! Prints the visible version of a key.
-ghost use Rattle.std.specs.Prelude.{◌≡◌, ◌∷◌, [], IfErr, IfNone, IfOk, IfSome};
-ghost use Rattle.std.specs.Prelude.{None, Some, false, is_some, map};
+ghost use Rattle.std.specs.Prelude.{◌≡◌, ◌⊎◌, ◌∷◌, [], IfErr, IfOk, List, Option, Some, ℕ};
 ghost use Rattle.sst_tool.specs.show.Words as spec;
-ghost use Rattle.sst_entries.specs.declared.error.Error.TheVariants.{OutOfMemory};
 
-use crate::files::ToolError;
+use crate::files::{
+    Contents, FileError, FileFault, FileName, Place, RefusedAt, ToolError, open_bytes, open_file,
+    open_file_table, open_table,
+};
 use crate::lines::{Format, append_entry};
-use crate::show::NamedTable;
-use crate::show::loads::{loaded_by, object_of, print_words};
+use crate::show::loads::{FileLoads, loaded_by, object_of, print_words};
+use crate::show::refused_at;
+use lsm_files::{FileTable, ReadAt};
 use lsm_readers::Table;
-use lsm_runs::get_runs_ref;
-use lsm_sorted::{Ranged, Run};
-use sst_blocks::{EntryRef, Error, SeqNo};
+use lsm_sorted::leading;
+use sst_blocks::{Error, InternalValue, SeqNo, Slice};
 use std::alloc::Allocator;
 use std::io::Write;
-use std::sync::Arc;
 
 /// The key to read, and the format.
 #[derive(Clone, Copy, Debug)]
@@ -29,75 +29,110 @@ pub struct GetOptions<'k> {
     pub format: Format,
 }
 
-/// One run for each file, of one table.
-pub(crate) type Runs<A> = Vec<Arc<Run<Table<A>, A>, A>, A>;
-
 /// Writes the newest version of a key that is visible in all files together, and returns whether
 /// there is one. Without one it writes `none`, or `null` as JSON.
 ///
+/// The files are opened one after another. The call reads the blocks of a file that the key needs,
+/// and not the whole file.
+///
 /// With `loads` one more line for each file says how many blocks of each kind were loaded for it,
 /// and their offsets. As JSON it is an object,
-/// `{"name":"a.sst","loaded":{"data":1,..},"blocks":[{"section":"data","offset":0},..]}`.
+/// `{"name":"a.sst","loaded":{"data":1,..},"blocks":[{"section":"data","offset":0},..]}`. The whole
+/// file is read for it.
 ///
 /// # Errors
 ///
-/// Fails with [`ToolError::Unreadable`] for the first file whose table cannot be read, with
-/// [`ToolError::Output`], and with `OutOfMemory`. Lines already written stay.
-pub fn get<'a, A: Allocator + Copy, W: Write>(
+/// Fails with [`ToolError::File`] or [`ToolError::Unreadable`] for the first file that does not
+/// open as a table or cannot be read, with [`ToolError::Output`], and with `OutOfMemory`. Lines
+/// already written stay.
+pub fn get<'a, P: Place, A: Allocator + Copy, W: Write>(
     alloc: A,
     output: &mut W,
-    files: &[NamedTable<'a, A>],
+    place: &P,
+    paths: &[&'a str],
     options: &GetOptions<'_>,
 ) -> Result<bool, ToolError<'a>>
-    // Whatever the bytes, if each key range is well formed the result is that of the tables' reads.
-    // No error is skipped.
-    ensures returned { spec.AllByRecursion (spec.IsInOrder spec.range_of) (spec.runs_in files.now) →
-        IfOk result (spec.FindsIn options.now (spec.runs_in files.now)) }
-    // If the files store lists, there is an entry exactly if these lists have a visible one.
-    ensures found { spec.OnListsOf (spec.runs_in files.now) (λ lists. IfOk result (λ there.
-        there ≡ is_some (spec.point (spec.union_in lists) options.now.key.now
-        (spec.seen_below options.now)))) }
-    // An error that names a file names the first whose table cannot be read, with its error. It
-    // stores no list: if all do, no error names a file.
-    ensures named { IfErr result
-        (spec.NamesFaulty options.now.key.now (spec.seen_below options.now) files.now) }
-    ensures sound { spec.OnListsOf (spec.runs_in files.now) (λ _. IfErr result spec.NamesNone) }
+    // Whatever the bytes, each file opens as a table, and the result is that of the tables' reads.
+    // No error is skipped. If the files store lists, there is an entry exactly if these lists have
+    // a visible one.
+    ensures returned { spec.AreKnown P.File.reads → IfOk result
+        (spec.GetsFrom options.now (P.content place.now) paths.now) }
+    // An error that names a file names the first that does not open or whose table cannot be read,
+    // with its error. Such a table stores no list.
+    ensures named { spec.AreKnown P.File.reads → IfErr result (λ e. spec.NamesNone e ⊎
+        spec.StopsGet P.File.reads options.now (P.content place.now) paths.now e) }
 {
-    let runs = runs_of(alloc, files)?;
-    let is_there = print_read(alloc, output, &runs, files, options)?;
-    drop(runs);
-    if options.loads {
-        print_loads(alloc, output, files, options)?;
-    }
-    Ok(is_there)
+    let mut loads = Vec::new(alloc);
+    let found = get_each(alloc, place, paths, options, &mut loads)?;
+    print_found(alloc, output, &found, options.format)?;
+    print_loads(alloc, output, &loads, options.format)?;
+    Ok(found.is_some())
 }
 
-// Prints the visible version in these runs, borrowed from its table. Returns whether there is one.
-fn print_read<'a, A: Allocator + Copy, W: Write>(
+// Reads a key in each file, and returns the newest visible version. Adds the loads, if these are
+// wanted.
+fn get_each<'a, P: Place, A: Allocator + Copy>(
     alloc: A,
-    output: &mut W,
-    runs: &[Arc<Run<Table<A>, A>, A>],
-    files: &[NamedTable<'a, A>],
+    place: &P,
+    paths: &[&'a str],
     options: &GetOptions<'_>,
-) -> Result<bool, ToolError<'a>>
-    ensures returned { spec.AllByRecursion (spec.IsInOrder spec.range_of)
-        (map spec.arc_value runs.now) →
-        IfOk result (spec.FindsIn options.now (map spec.arc_value runs.now)) }
-    ensures list { spec.OnListsOf (map spec.arc_value runs.now) (λ lists. IfOk result (λ there.
-        there ≡ is_some (spec.point (spec.union_in lists) options.now.key.now
-        (spec.seen_below options.now)))) }
-    ensures named { IfErr result
-        (spec.NamesFaulty options.now.key.now (spec.seen_below options.now) files.now) }
-    ensures sound { spec.OnListsOf (map spec.arc_value runs.now) (λ _.
-        IfErr result spec.NamesNone) }
+    loads: &mut Vec<FileLoads<'a, A>, A>,
+) -> Result<Option<InternalValue<A>>, ToolError<'a>>
+    ensures found { spec.AreKnown P.File.reads → IfOk result
+        (spec.ReadsAll options.now (P.content place.now) paths.now) }
+    ensures named { spec.AreKnown P.File.reads → IfErr result
+        (spec.StopsGet P.File.reads options.now (P.content place.now) paths.now) }
 {
-    let seqno = seen_below(options);
-    match get_runs_ref(runs, options.key, seqno) {
+    let mut found = None;
+    for path in paths {
+        let next = get_in_file(alloc, place, path, options, loads)?;
+        found = leading(found, next);
+    }
+    Ok(found)
+}
+
+// Reads a key in the file at a path. Adds the loads, if these are wanted.
+fn get_in_file<'a, P: Place, A: Allocator + Copy>(
+    alloc: A,
+    place: &P,
+    path: &'a str,
+    options: &GetOptions<'_>,
+    loads: &mut Vec<FileLoads<'a, A>, A>,
+) -> Result<Option<InternalValue<A>>, ToolError<'a>>
+    ensures found { spec.AreKnown P.File.reads → IfOk result
+        (spec.ReadsFile options.now (P.content place.now path.now)) }
+    ensures fault { spec.AreKnown P.File.reads → IfErr result
+        (spec.FailsGet P.File.reads options.now (P.content place.now path.now) path.entry) }
+{
+    let contents = open_file(place, alloc, path)?;
+    let kept = contents.in_memory()?;
+    match get_in(alloc, contents, path, options) {
         Ok(found) => {
-            print_found(alloc, output, &found, options.format)?;
-            Ok(found.is_some())
+            if options.loads {
+                add_loads(alloc, place, path, kept, options, loads)?;
+            }
+            Ok(found)
         }
-        Err(error) => Err(refused_in(alloc, error, files, options.key, seqno)),
+        Err(error) => Err(located(alloc, place, kept, error)),
+    }
+}
+
+// Reads a key in an opened file.
+fn get_in<'a, R: ReadAt + Drop, A: Allocator + Copy>(
+    alloc: A,
+    file: R,
+    path: &'a str,
+    options: &GetOptions<'_>,
+) -> Result<Option<InternalValue<A>>, ToolError<'a>>
+    ensures found { spec.AreKnown R.reads → IfOk result
+        (spec.ReadsFile options.now (Some (R.bytes file))) }
+    ensures fault { spec.AreKnown R.reads → IfErr result
+        (spec.FailsGet R.reads options.now (Some (R.bytes file)) path.entry) }
+{
+    let table = open_file_table(alloc, file, path)?;
+    match find_in(&table, options.key, seen_below(options)) {
+        Ok(found) => Ok(found),
+        Err(error) => Err(failure_of(path, error)),
     }
 }
 
@@ -108,93 +143,120 @@ fn seen_below(options: &GetOptions<'_>) -> SeqNo
     options.at.unwrap_or(SeqNo::MAX)
 }
 
-/// Returns one run for each file.
-pub(crate) fn runs_of<'a, A: Allocator + Copy>(
-    alloc: A,
-    files: &[NamedTable<'a, A>],
-) -> Result<Runs<A>, ToolError<'a>>
-    ensures ok { IfOk result (λ runs. map spec.arc_value runs.items ≡ spec.runs_in files.now) }
-    ensures unnamed { IfErr result spec.NamesNone }
-{
-    let mut runs = Vec::new(alloc);
-    for file in files {
-        let run = run_of(alloc, file.table.clone()?)?;
-        runs.push(Arc::new(alloc, run)?)?;
-    }
-    Ok(runs)
-}
-
-fn run_of<'a, A: Allocator + Copy>(
-    alloc: A,
-    table: Table<A>,
-) -> Result<Run<Table<A>, A>, ToolError<'a>>
-    ensures ok { IfOk result (λ run. run ≡ table ∷ []) }
-    ensures unnamed { IfErr result spec.NamesNone }
-{
-    let mut tables = Vec::new(alloc);
-    tables.push(table)?;
-    match Run::new(tables) {
-        Some(run) => Ok(run),
-        None => unreachable!(),
-    }
-}
-
-// Returns the error of a read, with the first file that has one.
-fn refused_in<'a, A: Allocator + Copy>(
-    alloc: A,
-    error: Error,
-    files: &[NamedTable<'a, A>],
+// Reads a key in a table, if its range has it.
+fn find_in<R: ReadAt + Drop, A: Allocator + Clone>(
+    table: &FileTable<R, A>,
     key: &[u8],
     seqno: SeqNo,
+) -> Result<Option<InternalValue<A>>, lsm_files::FileError>
+    requires { spec.AreKnown R.reads → spec.IsRecovered table.now }
+    ensures found { spec.AreKnown R.reads →
+        spec.FileGives R.reads (λ (found : Option spec.Entry). found) result
+        (spec.run_read key.now seqno (table.now ∷ [])).returned }
+    ensures sound { spec.AreKnown R.reads → spec.IsSoundTable table.now →
+        IfErr result (spec.IsFailureOr R.reads spec.OutOfMemory) }
+{
+    if !table.metadata.key_range.contains_key(key) {
+        return Ok(None);
+    }
+    table.get(key, seqno, FileTable::<R, A>::key_hash(key))
+}
+
+// Returns the error of reading a table in its file.
+fn failure_of<'a>(path: &'a str, error: lsm_files::FileError) -> ToolError<'a>
+    ensures { spec.IsFailureAt path.entry error result }
+{
+    match error {
+        lsm_files::FileError::Io(error) => ToolError::File(FileError {
+            name: FileName::Plain(path),
+            fault: FileFault::Io(error),
+        }),
+        lsm_files::FileError::Table(Error::OutOfMemory) => ToolError::Refused(Error::OutOfMemory),
+        lsm_files::FileError::Table(error) => ToolError::Unreadable {
+            name: path,
+            at: RefusedAt::Unknown,
+            error,
+        },
+    }
+}
+
+// Adds the block that an error comes from, if it is found. The file's bytes are those kept, if
+// there are some.
+fn located<'a, P: Place, A: Allocator + Copy>(
+    alloc: A,
+    place: &P,
+    kept: Option<Slice<A>>,
+    error: ToolError<'a>,
 ) -> ToolError<'a>
-    ensures named { spec.NamesFaulty key.now seqno files.now result }
-    ensures memory { error ≡ OutOfMemory → spec.NamesNone result }
+    ensures { spec.IsSameFailure error.entry result }
 {
-    if error == Error::OutOfMemory {
-        return ToolError::Refused(error);
+    match error {
+        ToolError::Unreadable { name, error, .. } => ToolError::Unreadable {
+            name,
+            at: refused_in(alloc, place, name, kept, &error),
+            error,
+        },
+        error => error,
     }
-    for file in files {
-        if let Some(refused) = refused_by(alloc, file, key, seqno) {
-            return refused;
-        }
-    }
-    // Only memory that ran out on the way leads here.
-    ToolError::Refused(Error::OutOfMemory)
 }
 
-// Returns the error of reading a file, if its table fails.
-fn refused_by<'a, A: Allocator + Copy>(
+// Returns the block that an error comes from.
+fn refused_in<P: Place, A: Allocator + Copy>(
     alloc: A,
-    file: &NamedTable<'a, A>,
-    key: &[u8],
-    seqno: SeqNo,
-) -> Option<ToolError<'a>>
-    ensures blamed { IfSome result (spec.BlamesFaulty key.now seqno file.now) }
-    ensures none { IfNone result (spec.read_refusal key.now seqno file.now.table ≡ None) }
-{
-    let error = refusal_of(&file.table, key, seqno)?;
-    Some(file.blame(alloc, ToolError::Refused(error)))
+    place: &P,
+    path: &str,
+    kept: Option<Slice<A>>,
+    error: &Error,
+) -> RefusedAt {
+    match whole_table(alloc, place, path, kept) {
+        Ok(table) => refused_at(alloc, &table, error),
+        Err(_) => RefusedAt::Unknown,
+    }
 }
 
-// Returns the error of reading a key whose range covers it, if there is one.
-fn refusal_of<A: Allocator + Copy>(table: &Table<A>, key: &[u8], seqno: SeqNo) -> Option<Error>
-    ensures returned { IfSome result (λ e. spec.is_memory e ≡ false →
-        spec.read_refusal key.now seqno table.now ≡ Some e) }
-    ensures faulty { IfSome result (λ e. spec.is_memory e ≡ false → spec.IsSoundTable table.now →
-        ⊥) }
-    ensures none { IfNone result (spec.read_refusal key.now seqno table.now ≡ None) }
+// Opens a file whose whole bytes are in memory: those kept, if there are some.
+fn whole_table<'a, P: Place, A: Allocator + Copy>(
+    alloc: A,
+    place: &P,
+    path: &'a str,
+    kept: Option<Slice<A>>,
+) -> Result<Table<A>, ToolError<'a>>
+    ensures { IfErr result (spec.FailsOpen (P.content place.now path.now) path.entry) }
 {
-    if table.key_range().contains_key(key) {
-        table.get_by_key(key, seqno).err()
-    } else {
-        None
+    match kept {
+        // They were opened before, so only memory can run out.
+        Some(bytes) => match open_bytes(alloc, bytes, false) {
+            Ok(table) => Ok(table),
+            Err(_) => Err(ToolError::Refused(Error::OutOfMemory)),
+        },
+        None => Ok(open_table(place, alloc, path, false)?),
     }
+}
+
+// Adds the blocks that the read loads from a file.
+fn add_loads<'a, P: Place, A: Allocator + Copy>(
+    alloc: A,
+    place: &P,
+    path: &'a str,
+    kept: Option<Slice<A>>,
+    options: &GetOptions<'_>,
+    loads: &mut Vec<FileLoads<'a, A>, A>,
+) -> Result<(), ToolError<'a>>
+    ensures { IfErr result (spec.FailsOpen (P.content place.now path.now) path.entry) }
+{
+    let table = whole_table(alloc, place, path, kept)?;
+    let Ok(loaded) = loaded_by(alloc, &table, options.key, seen_below(options)) else {
+        return Err(ToolError::Refused(Error::OutOfMemory));
+    };
+    drop(table);
+    loads.push(FileLoads { name: path, loaded })?;
+    Ok(())
 }
 
 fn print_found<'a, A: Allocator + Copy, W: Write>(
     alloc: A,
     output: &mut W,
-    found: &Option<EntryRef<'_>>,
+    found: &Option<InternalValue<A>>,
     format: Format,
 ) -> Result<(), ToolError<'a>>
     ensures { IfErr result spec.NamesNone }
@@ -204,8 +266,8 @@ fn print_found<'a, A: Allocator + Copy, W: Write>(
             output.write_all(absent_line(format))?;
             Ok(())
         }
-        Some(entry) => {
-            let text = append_entry(alloc, Vec::new(alloc), entry, format)?;
+        Some(item) => {
+            let text = append_entry(alloc, Vec::new(alloc), &item.as_entry_ref(), format)?;
             output.write_all(&text)?;
             Ok(())
         }
@@ -224,33 +286,18 @@ fn absent_line(format: Format) -> &'static [u8] {
 fn print_loads<'a, A: Allocator + Copy, W: Write>(
     alloc: A,
     output: &mut W,
-    files: &[NamedTable<'a, A>],
-    options: &GetOptions<'_>,
+    loads: &[FileLoads<'_, A>],
+    format: Format,
 ) -> Result<(), ToolError<'a>>
     ensures { IfErr result spec.NamesNone }
 {
-    for file in files {
-        print_file(alloc, output, file, options)?;
-    }
-    Ok(())
-}
-
-fn print_file<'a, A: Allocator + Copy, W: Write>(
-    alloc: A,
-    output: &mut W,
-    file: &NamedTable<'a, A>,
-    options: &GetOptions<'_>,
-) -> Result<(), ToolError<'a>>
-    ensures { IfErr result spec.NamesNone }
-{
-    let Ok(loaded) = loaded_by(alloc, &file.table, options.key, seen_below(options)) else {
-        return Err(ToolError::Refused(Error::OutOfMemory));
-    };
-    match options.format {
-        Format::Lines => print_words(output, file.name, &loaded)?,
-        Format::Json => {
-            let text = object_of(alloc, file.name, &loaded)?;
-            output.write_all(&text)?;
+    for file in loads {
+        match format {
+            Format::Lines => print_words(output, file)?,
+            Format::Json => {
+                let text = object_of(alloc, file)?;
+                output.write_all(&text)?;
+            }
         }
     }
     Ok(())

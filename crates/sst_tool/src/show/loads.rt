@@ -18,6 +18,15 @@ pub(crate) struct TableLoads<A: Allocator = Global> {
     pub(crate) places: Vec<BlockPlace, A>,
 }
 
+/// The blocks that a point read loads from a file.
+#[derive(Drop)]
+pub(crate) struct FileLoads<'a, A: Allocator = Global> {
+    /// The name of the file, as given.
+    pub(crate) name: &'a str,
+    /// The blocks.
+    pub(crate) loaded: TableLoads<A>,
+}
+
 /// Returns what a point read at a snapshot loads from a table.
 ///
 /// # Errors
@@ -208,17 +217,16 @@ fn reached<A: Allocator + Copy>(
 /// Writes the loaded blocks of a file as a line of text.
 pub(crate) fn print_words<A: Allocator, W: Write>(
     output: &mut W,
-    name: &str,
-    loaded: &TableLoads<A>,
+    file: &FileLoads<'_, A>,
 ) -> io::Result<()> {
-    let (name, opened) = (Escaped(name), loaded.opened);
+    let (name, opened) = (Escaped(file.name), file.loaded.opened);
     let (data, index) = (opened.data_loads, opened.index_loads);
     let (filter, meta) = (opened.filter_loads, opened.meta_loads);
     write!(
         output,
         "{name}: loaded data {data}, index {index}, filter {filter}, meta {meta}"
     )?;
-    for place in &loaded.places {
+    for place in &file.loaded.places {
         write!(output, "; {place}")?;
     }
     output.write_all(b"\n")
@@ -231,17 +239,16 @@ pub(crate) fn print_words<A: Allocator, W: Write>(
 /// Fails only if memory runs out.
 pub(crate) fn object_of<A: Allocator + Copy>(
     alloc: A,
-    name: &str,
-    loaded: &TableLoads<A>,
+    file: &FileLoads<'_, A>,
 ) -> Result<Vec<u8, A>, AllocError> {
     let mut writer = Writer::new(Vec::new(alloc));
     writer.begin_object()?;
-    write_text(&mut writer, "name", name)?;
+    write_text(&mut writer, "name", file.name)?;
     writer.key("loaded")?;
-    write_counts(&mut writer, loaded.opened)?;
+    write_counts(&mut writer, file.loaded.opened)?;
     writer.key("blocks")?;
     writer.begin_array()?;
-    for place in &loaded.places {
+    for place in &file.loaded.places {
         write_place(&mut writer, *place)?;
     }
     writer.end_array()?;

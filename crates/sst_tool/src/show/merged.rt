@@ -1,12 +1,11 @@
 //! Prints the newest entries of several files as one list.
-ghost use Rattle.std.specs.Prelude.{◌≡◌, ◌<◌, IfErr, IfOk, IfSome, MatchResult};
+ghost use Rattle.std.specs.Prelude.{◌≡◌, ◌<◌, ◌∷◌, [], IfErr, IfOk, IfSome, MatchResult};
 ghost use Rattle.std.specs.Prelude.{Option, length, map};
 ghost use Rattle.sst_tool.specs.show.Words as spec;
 
 use crate::files::ToolError;
 use crate::lines::Format;
 use crate::show::dumps::{bounds_of, print_entry};
-use crate::show::gets::runs_of;
 use crate::show::{DumpOptions, NamedTable, dump};
 use lsm_readers::Table;
 use lsm_runs::{LentNewestOf, lend_runs_at, range_runs_at};
@@ -16,6 +15,9 @@ use std::alloc::Allocator;
 use std::io;
 use std::io::Write;
 use std::sync::Arc;
+
+// One run for each file, of one table.
+type Runs<A> = Vec<Arc<Run<Table<A>, A>, A>, A>;
 
 /// Writes the newest version of each key of all files together, one on each line, at most `most` of
 /// them. Returns how many it wrote.
@@ -54,6 +56,37 @@ pub fn dump_merged<'a, A: Allocator + Copy, W: Write>(
     match print_merged(alloc, output, &runs, options, seqno, most) {
         Ok(count) => Ok(count),
         Err(error) => Err(blame_merged(alloc, files, options, error)),
+    }
+}
+
+// Returns one run for each file.
+fn runs_of<'a, A: Allocator + Copy>(
+    alloc: A,
+    files: &[NamedTable<'a, A>],
+) -> Result<Runs<A>, ToolError<'a>>
+    ensures ok { IfOk result (λ runs. map spec.arc_value runs.items ≡ spec.runs_in files.now) }
+    ensures unnamed { IfErr result spec.NamesNone }
+{
+    let mut runs = Vec::new(alloc);
+    for file in files {
+        let run = run_of(alloc, file.table.clone()?)?;
+        runs.push(Arc::new(alloc, run)?)?;
+    }
+    Ok(runs)
+}
+
+fn run_of<'a, A: Allocator + Copy>(
+    alloc: A,
+    table: Table<A>,
+) -> Result<Run<Table<A>, A>, ToolError<'a>>
+    ensures ok { IfOk result (λ run. run ≡ table ∷ []) }
+    ensures unnamed { IfErr result spec.NamesNone }
+{
+    let mut tables = Vec::new(alloc);
+    tables.push(table)?;
+    match Run::new(tables) {
+        Some(run) => Ok(run),
+        None => unreachable!(),
     }
 }
 

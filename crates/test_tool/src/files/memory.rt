@@ -1,7 +1,9 @@
 //! A file system in memory.
+use lsm_files::ReadAt;
 use lsm_tables::block::Slice;
-use sst_tool::files::{FileFault, Place};
+use sst_tool::files::{Contents, FileFault, Place};
 use std::alloc::{AllocError, Allocator, Global};
+use std::cell::Cell;
 use std::fs::{Metadata, Permissions};
 use std::io;
 use std::io::ErrorKind;
@@ -23,6 +25,8 @@ pub(crate) struct Memory {
     refused: u64,
     // whether nothing can be removed
     held: bool,
+    // how many reads of an opened file succeed; none if it is read to its end, as a pipe
+    reads: Option<u64>,
 }
 
 impl Memory {
@@ -34,7 +38,14 @@ impl Memory {
             steps: 0,
             refused,
             held: false,
+            reads: Some(u64::MAX),
         }
+    }
+
+    /// Lets so many reads of each opened file succeed. Without a number they are read to their end
+    /// when they are opened, as a pipe.
+    pub(crate) fn limit(&mut self, reads: Option<u64>) {
+        self.reads = reads;
     }
 
     /// Lets each removal fail, or none.
@@ -66,6 +77,15 @@ impl Memory {
             }
         }
         None
+    }
+
+    /// Changes a byte of a file's first block, which is no step.
+    pub(crate) fn damage(&mut self, path: &str) {
+        for file in &mut self.files {
+            if file.path.as_str() == path {
+                flip(&mut file.bytes);
+            }
+        }
     }
 
     /// Adds a file or a folder, which is no step.
@@ -134,6 +154,15 @@ impl Memory {
     }
 }
 
+// Changes a byte of the first block.
+fn flip(bytes: &mut Option<Vec<u8>>) {
+    if let Some(bytes) = bytes {
+        if let Some(byte) = bytes.get_mut(40) {
+            *byte ^= 1;
+        }
+    }
+}
+
 // A copy of the bytes.
 fn copied(alloc: Global, bytes: &[u8]) -> Result<Vec<u8>, AllocError> {
     let mut copy = Vec::new(alloc);
@@ -141,7 +170,38 @@ fn copied(alloc: Global, bytes: &[u8]) -> Result<Vec<u8>, AllocError> {
     Ok(copy)
 }
 
+/// An opened file, of which so many reads succeed.
+#[derive(Drop)]
+pub(crate) struct Opened {
+    bytes: Slice,
+    left: Cell<u64>,
+}
+
+impl ReadAt for Opened {
+    ghost use Rattle.std.specs.Prelude.{[]};
+    ghost use Rattle.lsm_files.specs.Reads.{unknown};
+
+    ghost reads = { unknown };
+
+    ghost bytes = { λ _. [] };
+
+    fn len(&self) -> io::Result<u64> {
+        Ok(self.bytes.len() as u64)
+    }
+
+    fn read_exact_at(&self, buf: &mut [u8], offset: u64) -> io::Result<()> {
+        let left = self.left.get();
+        if left == 0 {
+            return Err(io::Error::from(ErrorKind::PermissionDenied));
+        }
+        self.left.set(left - 1);
+        self.bytes.read_exact_at(buf, offset)
+    }
+}
+
 impl Place for Memory {
+    type File = Opened;
+
     ghost use Rattle.std.specs.Prelude.{None};
 
     ghost done = { λ _. None };
@@ -156,6 +216,20 @@ impl Place for Memory {
         match self.bytes_of(path) {
             Some(bytes) => Ok(Slice::from(alloc, bytes)?),
             None => Err(FileFault::Io(io::Error::from(ErrorKind::NotFound))),
+        }
+    }
+
+    fn open<A: Allocator + Copy>(
+        &self,
+        alloc: A,
+        path: &str,
+    ) -> Result<Contents<Opened, A>, FileFault> {
+        match self.reads {
+            None => Ok(Contents::Memory(self.read(alloc, path)?)),
+            Some(reads) => Ok(Contents::File(Opened {
+                bytes: self.read(self.alloc, path)?,
+                left: Cell::new(reads),
+            })),
         }
     }
 

@@ -11,7 +11,7 @@ returns-clause-small g c =
 
 pub returns-clause-does : goal.returns-clause-does
 returns-clause-does g c =
-    status_stays (λ (s : ℕ). DoesTask c.args.task.now (g.I.Read.remaining c.args.input)
+    status_stays (λ (s : ℕ). DoesTask g.P.File.ReadAt.reads c.args.task.now (g.I.Read.remaining c.args.input)
     (g.P.Place.content c.args.place.now) (g.P.Place.there c.args.place.now)
     (g.P.Place.done c.args.place.now) (g.P.Place.done c.perform-done.new.place) s)
     c.status_flushed.result c.in_ok-status.status c.status_flushed.ensures.ok
@@ -27,5 +27,5 @@ returns-clause-refused g c =
     let new = g.P.Place.done c.perform-done.new.place in
     output_fails (λ (f : ToolError). RefusesTask task input content there known f new)
     c.status_flushed.result c.status_flushed.ensures.err
-    (λ o. not_passed_on task input content there known new c.in_ok-status.status o
+    (λ o. not_passed_on g.P.File.ReadAt.reads task input content there known new c.in_ok-status.status o
     c.in_ok-status.ensures.does)

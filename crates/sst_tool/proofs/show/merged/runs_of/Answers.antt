@@ -2,7 +2,7 @@ use Rattle.std.proofs.Common.{◌≡◌, ◌∷◌, [], ◌+◌, sym, subst, map
 use Rattle.std.specs.Arc.{arc_value}
 use Rattle.sst_tool.specs.show.Files.{runs_in}
 use Rattle.sst_tool.proofs.FileLemmas.{runs_more}
-use Rattle.sst_tool.proofs.show.gets.runs_of.Goals as goal
+use Rattle.sst_tool.proofs.show.merged.runs_of.Goals as goal
 
 pub loop-file-preserved : goal.loop-file-preserved
 loop-file-preserved g c =

@@ -2,7 +2,7 @@
 use Rattle.std.proofs.Common.{◌≡◌, map, take}
 use Rattle.std.specs.Arc.{arc_value}
 use Rattle.sst_tool.specs.show.Files.{runs_in}
-use Rattle.sst_tool.proofs.show.gets.runs_of.Given as goal
+use Rattle.sst_tool.proofs.show.merged.runs_of.Given as goal
 
 abbrev pub invariant-loop-file : goal.invariant-loop-file
 invariant-loop-file g l = map arc_value l.runs.items ≡ runs_in (take l.file-index l.files)
