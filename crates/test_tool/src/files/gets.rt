@@ -60,11 +60,7 @@ fn failed(alloc: Global, reads: Option<u64>) -> u8 {
     error
 }
 
-<<<<<<< HEAD
-// The error of reading a key in a file whose byte at the start was changed.
-=======
 // The error of reading a key in a file whose first block was changed, and the length of the output.
->>>>>>> 7323a6dd
 fn damaged(alloc: Global) -> (u8, usize) {
     let mut place = sources(alloc, NEVER);
     place.damage("a");

@@ -79,11 +79,7 @@ impl Memory {
         None
     }
 
-<<<<<<< HEAD
-    /// Changes the last byte of a file's first block, which is no step.
-=======
     /// Changes a byte of a file's first block, which is no step.
->>>>>>> 7323a6dd
     pub(crate) fn damage(&mut self, path: &str) {
         for file in &mut self.files {
             if file.path.as_str() == path {
@@ -158,11 +154,7 @@ impl Memory {
     }
 }
 
-<<<<<<< HEAD
-// Changes a byte near the start.
-=======
 // Changes a byte of the first block.
->>>>>>> 7323a6dd
 fn flip(bytes: &mut Option<Vec<u8>>) {
     if let Some(bytes) = bytes {
         if let Some(byte) = bytes.get_mut(40) {
