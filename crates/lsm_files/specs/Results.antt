@@ -46,7 +46,7 @@ FileFaults reads (Ok x) returned = returned ≡ None
 FileFaults reads (Err (Io e)) returned = MayFail reads
 FileFaults reads (Err (Table e)) returned = is_memory e ≡ false → returned ≡ Some e
 
--- A handle describes less than a header, or bytes that end past the body.
+-- The error is `Truncated`: a handle describes less than a header, or bytes that end past the body.
 abbrev pub IsHandleFault : ByteAccess → Place → List ℕ → Error → Type 0
 IsHandleFault reads place body e =
     (e ≡ Truncated) × (AreKnown reads → header_len ≤ place.size →
@@ -66,8 +66,8 @@ abbrev pub MayBeError : ByteAccess → FileError → Type 0
 MayBeError reads (Io e) = MayFail reads
 MayBeError reads (Table e) = Unit {0}
 
--- The result of a read of a source with these bytes and loads, and the source after it. The last
--- field says whether a read has failed.
+-- What a source returns for a read, and the source after it. A source is its bytes, its counts of
+-- loads, and whether a read has failed.
 abbrev pub kept_failure : {X : Type 0} → Result X FileError → List ℕ × Opened × Bool
     → Result X Error × (List ℕ × Opened × Bool)
 kept_failure (Ok x) s = (Ok x, s)

@@ -9,8 +9,7 @@ use std::alloc::{Allocator, Global};
 use std::io;
 use std::marker::Model;
 
-/// A source that reads each block from a file when it is loaded. Calls of `FileTable` make it; there
-/// is no other way.
+/// A source that reads each block from a file when it is loaded. Only calls of `FileTable` make one.
 ///
 /// A load whose read fails reports [`Error::OutOfMemory`], and the source keeps the system's error.
 /// [`FileBlocks::result`] returns that error in place of the other.
@@ -102,7 +101,8 @@ impl<'a, R: ReadAt, A: Allocator + Clone> FileBlocks<'a, R, A> {
         }
     }
 
-    /// Keeps the system's error of a read, and reports [`Error::OutOfMemory`] in its place.
+    /// Keeps the system's error of a read, and returns [`Error::OutOfMemory`] in its place. Other
+    /// results are returned as they are.
     fn keep(&mut self, read: Result<Slice<A>, FileError>) -> Result<Slice<A>, Error>
         requires { IfErr read (spec.MayBeError R.reads) }
         ensures { (result, self.new) ≡ spec.kept_failure read self.old }

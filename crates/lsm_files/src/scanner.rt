@@ -14,7 +14,7 @@ use std::mem;
 /// A pass over all entries of a table in its file, block by block in file order.
 ///
 /// It reads 256 KiB of neighbouring blocks at once, or one larger block. A block that begins there
-/// and does not end is read again with the next ones. [`FileScanner::entry`] borrows each entry
+/// and does not end there is read again with the next ones. [`FileScanner::entry`] borrows each entry
 /// from its block. After any error the scanner is exhausted.
 #[derive(Drop)]
 pub struct FileScanner<'a, R: ReadAt, A: Allocator = Global> {
@@ -132,7 +132,8 @@ impl<R: ReadAt, A: Allocator + Clone> FileScanner<'_, R, A> {
         // It loads the blocks up to the next entry.
         ensures counted { spec.AreKnown R.reads → OnOk result
             (self.new.opened ≡ spec.loads (spec.loads_of self.old) self.old.opened) }
-        // An error loads at most these blocks. If there are none, it is that of the next entry.
+        // A step that fails loads at most these blocks. If it needs none, its error is that of the
+        // next entry.
         ensures begun { spec.AreKnown R.reads → OnErr result (spec.LoadsUpTo self.old self.new) }
         ensures calm { spec.AreKnown R.reads → spec.loads_of self.old ≡ 0 → IfErr result
             (λ e. spec.table_error (spec.next_of (spec.scan_left self.old)) ≡ Err e) }

@@ -81,7 +81,7 @@ impl<R: ReadAt + Drop, A: Allocator + Clone> FileTable<R, A> {
         ensures returned { spec.AreKnown R.reads →
             spec.FileGives R.reads (λ (t : spec.OpenTable). t.parts) result
             (spec.recovered_result (R.bytes file) global_seqno pin_filter pin_index) }
-        // Bytes that store a list open if the highest seqno fits.
+        // Bytes that store a list open if the highest seqno fits with the global one added.
         ensures stores { spec.OnStoredList R.reads (R.bytes file) (λ es.
             spec.FileGives R.reads (λ (t : spec.OpenTable). tt) result
             (spec.fits_result es global_seqno)) }
@@ -125,7 +125,8 @@ impl<R: ReadAt + Drop, A: Allocator + Clone> FileTable<R, A> {
         // If no block is loaded, the read does not fail.
         ensures calm { spec.AreKnown R.reads →
             (spec.table_answer self.now key.now seqno).loads ≡ [] → IsOk result.0 }
-        // It makes the loads of that read. If a read of the file fails, it makes a part of them.
+        // It makes the loads of that read, or a part of them if a read of the file fails or memory
+        // runs out.
         ensures opened { let loads = (spec.table_answer self.now key.now seqno).loads in
             spec.AreKnown R.reads →
             spec.Opens (spec.failure_as_memory result.0) loads spec.none_opened result.1 }

@@ -14,7 +14,7 @@ use std::sync::Arc;
 
 /// Whether the sorted entries of some runs are in strict order: no key has one seqno twice.
 ///
-/// Each table is read once.
+/// Each table is read at most once.
 ///
 /// # Errors
 ///
